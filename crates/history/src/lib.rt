@@ -1,0 +1,1 @@
+// Histories of calls and returns: definitions and laws, no code of its own.
