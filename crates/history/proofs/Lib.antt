@@ -1,0 +1,5 @@
+pub mod CodeLaws
+pub mod HistoryLaws
+pub mod ListLaws
+pub mod PrecedenceLaws
+pub mod PrecedenceLists

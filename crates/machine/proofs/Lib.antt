@@ -1,0 +1,10 @@
+pub mod ScheduleLaws
+pub mod WorkingLaws
+pub mod WorkingSteps
+pub mod SlotLaws
+pub mod FindLaws
+pub mod FindSteps
+pub mod CountLaws
+pub mod RunLaws
+pub mod ChainLaws
+pub mod DemandLaws

@@ -1,0 +1,9 @@
+pub mod FitLaws
+pub mod ListingLaws
+pub mod MergeLaws
+pub mod MergeOrderLaws
+pub mod MergeRowsLaws
+pub mod NotingLaws
+pub mod PrecedesLaws
+pub mod StoreLaws
+pub mod WeavingLaws
