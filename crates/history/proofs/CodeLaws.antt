@@ -145,6 +145,7 @@ module _ (T : Table) where
       → ((i : ℕ) → i < length cs → CanStand T (old ++ take i (events T cs xs)) (eventOf T (getD cs i 0) (getD xs i (pos 0))) (getD xs i (pos 0))) → StandsAfter T old (events T cs xs)
   stands-each old [] xs f = tt
   stands-each old (c ∷ cs) [] f = tt
-  stands-each old (c ∷ cs) (x ∷ xs) f =
-      (stand-beside old c x (rw append-nil at (f 0 (omega arith))),
-       stands-each (old ++ (eventOf T c x ∷ [])) cs xs (λ i lt. rw append-assoc (f (suc i) (omega arith))))
+  stands-each old (c ∷ cs) (x ∷ xs) f = (
+    stand-beside old c x (rw append-nil at (f 0 (omega arith))),
+    stands-each (old ++ (eventOf T c x ∷ [])) cs xs (λ i lt. rw append-assoc (f (suc i) (omega arith))),
+  )

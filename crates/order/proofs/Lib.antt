@@ -5,5 +5,6 @@ pub mod MergeOrderLaws
 pub mod MergeRowsLaws
 pub mod NotingLaws
 pub mod PrecedesLaws
+pub mod ReachingLaws
 pub mod StoreLaws
 pub mod WeavingLaws

@@ -1,5 +1,5 @@
 -- Laws of the two tables, `ends` and `needs`, one entry or one code at a time. Assumes nothing.
-use mathlib.Core.Path.{_≡_, refl, sym, ap, _∙_}
+use mathlib.Core.Path.{_≡_, refl, ap, _∙_}
 use mathlib.Core.Logic.{_⊎_, inl, inr, ⊎-elim}
 use mathlib.Core.List.{List, map}
 use Prim.Native.Nat.{ℕ, _+_, _*_, _/_, _%_, _-_, _≤_, _<_}
@@ -117,7 +117,8 @@ pub noted-start : (codes ends : List ℕ) → Noted codes ends (replicate 256 0)
 noted-start codes ends =
     record {
       reached = record { most = λ a j lt b e. absurd (omega arith); from = inl refl };
-      needed = record { size = length-replicate {A = ℕ} 256 0; most = λ a b j l la lb c d e f. absurd (omega arith); from = λ b lb. inl (getD-replicate 256 b 0 0 lb) } }
+      needed = record { size = length-replicate {A = ℕ} 256 0; most = λ a b j l la lb c d e f. absurd (omega arith); from = λ b lb. inl (getD-replicate 256 b 0 0 lb) };
+    }
 
 module _ (codes ends needs : List ℕ) (reach i : ℕ) (n : Noted codes ends needs reach i) where
   -- no row names the operation
@@ -125,13 +126,15 @@ module _ (codes ends needs : List ℕ) (reach i : ℕ) (n : Noted codes ends nee
   noted-far far =
       record {
         reached = reached-kept codes ends reach i (λ a lt e. absurd (omega arith)) (n .reached);
-        needed = needs-kept codes ends needs i (λ b lt e. omega arith) (n .needed) }
+        needed = needs-kept codes ends needs i (λ b lt e. omega arith) (n .needed);
+      }
 
   pub noted-call : at codes i % 2 ≡ 0 → at codes i / 2 < 256 → Noted codes ends (set needs (at codes i / 2) reach) reach (i + 1)
   noted-call even small =
       record {
         reached = reached-kept codes ends reach i (λ a lt e. absurd (omega arith)) (n .reached);
-        needed = needs-set codes ends needs reach i (at codes i / 2) small (omega arith) (n .reached) (n .needed) }
+        needed = needs-set codes ends needs reach i (at codes i / 2) small (omega arith) (n .reached) (n .needed);
+      }
 
   pub noted-return : (r : ℕ) → (at codes i % 2 ≡ 0 → ⊥) → at codes i / 2 < 256 → Later reach (at ends (at codes i / 2)) r → Noted codes ends needs r (i + 1)
   noted-return r odd small later = record { reached = go (later .one); needed = needs-kept codes ends needs i (λ b lt e. omega (arith, odd-code (at codes i) odd)) (n .needed) }

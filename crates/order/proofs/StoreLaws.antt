@@ -5,7 +5,7 @@ use Prim.Native.Nat.{ℕ, suc, _+_, _-_, _≤_, _<_}
 use native.Mathlib.Omega.{arith}
 use native.Mathlib.Nat.{add-zero, add-suc, suc-add}
 use native.Mathlib.Numerals.{add-one}
-use lib.ListN.{length, set, getD, take, drop, length-drop, length-append, length-set, take-append-drop}
+use lib.ListN.{length, set, getD, take, drop, length-drop, length-append, take-append-drop}
 use lib.Seq.{sets, sets-eq, length-sets, take-suc, length-take-le, drop-set-lt, getD-set-other, getD-take, getD-drop, take-add, drop-drop, take-at, drop-at, take-suc-set}
 use Rattle.order.specs.Weaving.{at, part}
 
@@ -43,7 +43,7 @@ take-sets l i vs h =
 pub take-next : (l : List ℕ) (i n : ℕ) (vs : List ℕ) (v : ℕ) → length vs ≡ n → i + n < length l → take (i + n + 1) (set (sets l i vs) (i + n) v) ≡ take i l ++ vs ++ (v ∷ [])
 take-next l i n vs v e h =
     rw (add-one, ← e)
-      (take-suc-set (sets l i vs) (i + length vs) v (omega (arith, length-sets l i vs)) ∙ ap (λ (w : List ℕ). w ++ (v ∷ [])) (take-sets l i vs (omega arith)))
+    (take-suc-set (sets l i vs) (i + length vs) v (omega (arith, length-sets l i vs)) ∙ ap (λ (w : List ℕ). w ++ (v ∷ [])) (take-sets l i vs (omega arith)))
 
 -- a row of n entries stored at the front
 pub sets-front : (l vs : List ℕ) (n : ℕ) → length vs ≡ n → n ≤ length l → sets l 0 vs ≡ vs ++ drop n l
@@ -88,11 +88,6 @@ pub drop-later : (k r : ℕ) (l m : List ℕ) → k ≤ r → drop k l ≡ drop 
 drop-later k r l m h e =
     let s : k + (r - k) ≡ r = omega arith in
     ap (λ (j : ℕ). drop j l) (sym s) ∙ sym (drop-drop (r - k) k l) ∙ ap (drop (r - k)) e ∙ drop-drop (r - k) k m ∙ ap (λ (j : ℕ). drop j m) s
-
-pub at-later : (k q : ℕ) (l m : List ℕ) → k ≤ q → drop k l ≡ drop k m → at l q ≡ at m q
-at-later k q l m h e =
-    let s : k + (q - k) ≡ q = omega arith in
-    ap (at l) (sym s) ∙ sym (getD-drop k l (q - k) 0) ∙ ap (λ (w : List ℕ). at w (q - k)) e ∙ getD-drop k m (q - k) 0 ∙ ap (at m) s
 
 -- the part that a stored row takes is the row
 pub part-sets : (l : List ℕ) (i : ℕ) (vs : List ℕ) (e : ℕ) → e ≡ i + length vs → e ≤ length l → part i e (sets l i vs) ≡ vs

@@ -2,7 +2,7 @@
 --   bare            the event that a code gives, without its sample: 'precedes' asks for no more
 --   pairs           the finds: each take with the put beside it
 --   listing         the listed order of the history that the codes give
---   fits            each take has its put, and the lent order has room for all of them
+--   rowsFit         each take has its put, and the lent order has room for all of them
 --   listingAnswer   how many entries the order got, or that the rows do not fit
 --   listingAfter    the lent order afterwards: the listing first, every later entry as it was; wholly as it was if the rows do not fit
 use mathlib.Core.Bool.{Bool, false, cond}
@@ -29,13 +29,13 @@ unfoldable pub listing : List ℕ → List ℕ → List ℕ → List ℕ → Lis
 listing codes takes puts others = listedOrder (map bare codes) (pairs takes puts) others
 
 -- by the lengths of the three rows and of the lent order
-abbrev pub fits : ℕ → ℕ → ℕ → ℕ → Bool
-fits takes puts others room = cond (eqb takes puts) (leb (puts + others + takes) room) false
+abbrev pub rowsFit : ℕ → ℕ → ℕ → ℕ → Bool
+rowsFit takes puts others room = cond (eqb takes puts) (leb (puts + others + takes) room) false
 
 unfoldable pub listingAnswer : List ℕ → List ℕ → List ℕ → List ℕ → ℕ → Listed
 listingAnswer codes takes puts others room =
-    cond (fits (length takes) (length puts) (length others) room) (Done (length (listing codes takes puts others))) Unfit
+    cond (rowsFit (length takes) (length puts) (length others) room) (Done (length (listing codes takes puts others))) Unfit
 
 unfoldable pub listingAfter : List ℕ → List ℕ → List ℕ → List ℕ → List ℕ → List ℕ
 listingAfter codes takes puts others order =
-    cond (fits (length takes) (length puts) (length others) (length order)) (sets order 0 (listing codes takes puts others)) order
+    cond (rowsFit (length takes) (length puts) (length others) (length order)) (sets order 0 (listing codes takes puts others)) order

@@ -1,12 +1,11 @@
 // The listed order: two rows and their merge. It knows a history and two rows, and nothing of slots and phases.
 ghost use mathlib.Core.Path.{_≡_};
-ghost use mathlib.Core.Bool.{true, false};
 ghost use mathlib.Core.List.{map};
-ghost use Prim.Native.Nat.{ℕ, _+_, _-_, _≤_, _<_};
-ghost use lib.ListN.{length, take, drop, set, getD, replicate};
+ghost use Prim.Native.Nat.{_+_, _-_, _≤_, _<_};
+ghost use lib.ListN.{length};
 ghost use lib.Seq.{sets};
 ghost use Rattle.order.specs.Order.{merge};
-ghost use Rattle.order.specs.Listing.{bare, pairs, fits, listingAnswer, listingAfter};
+ghost use Rattle.order.specs.Listing.{bare, pairs, rowsFit, listingAnswer, listingAfter};
 ghost use Rattle.order.specs.Weaving.{part, Later, Ends, Noted, Needs};
 
 // How many entries the order got, or that the rows do not belong together or do not fit.
@@ -17,7 +16,7 @@ pub enum Listed {
 
 // Whether each take has its put, and the room is enough for all puts and takes.
 fn rows_fit(takes: usize, puts: usize, others: usize, room: usize) -> bool
-    ensures { λ r. ⌜ r ≡ fits takes puts others room ⌝ }
+    ensures { λ r. ⌜ r ≡ rowsFit takes puts others room ⌝ }
 {
     if takes != puts {
         return false;
@@ -78,7 +77,13 @@ fn note_ends(row: &[u8], k: usize, e: usize, ends: &mut [usize; 256])
 }
 
 // Notes the event at i: a return may raise the latest end; a call needs the latest end so far. No row names an operation from 256 on.
-fn note_event(codes: &[u16], i: usize, reach: usize, ends: &[usize; 256], needs: &mut [usize; 256]) -> usize
+fn note_event(
+    codes: &[u16],
+    i: usize,
+    reach: usize,
+    ends: &[usize; 256],
+    needs: &mut [usize; 256],
+) -> usize
     requires { ⌜ (i < length (now codes)) × Noted (now codes) (now ends) (now needs) reach i ⌝ }
     ensures { λ r. ⌜ Noted (now (codes .entry)) (now (ends .entry)) (now (needs .exit)) r (i + 1) ⌝ }
 {
@@ -109,6 +114,8 @@ fn note_needs(codes: &[u16], ends: &[usize; 256], needs: &mut [usize; 256])
 }
 
 // Merges in place: the row of puts stands in the order from takes.len() up to e; the merged rows stand before e afterwards.
+// The row's rest begins at k and the next entry goes to out, which stays before k as long as a take is left.
+// Each take stands behind the later of the put it found and the last put that precedes it.
 fn merge_rows(codes: &[u16], takes: &[u8], puts: &[u8], order: &mut [u8], e: usize)
     requires { ⌜ (length (now puts) ≡ length (now takes)) × ((length (now takes) ≤ e) × (e ≤ length (now order))) ⌝ }
     ensures { λ r. ⌜ now (order .exit) ≡ sets (now (order .entry)) 0 (merge (map bare (now (codes .entry))) (part (length (now (takes .entry))) e (now (order .entry))) (pairs (now (takes .entry)) (now (puts .entry)))) ⌝ }
@@ -134,7 +141,13 @@ fn merge_rows(codes: &[u16], takes: &[u8], puts: &[u8], order: &mut [u8], e: usi
 }
 
 // Lists the order of a history, given by its codes: takes[i] found puts[i], and nobody found the other stored puts.
-pub fn list_order(codes: &[u16], takes: &[u8], puts: &[u8], others: &[u8], order: &mut [u8]) -> Listed
+pub fn list_order(
+    codes: &[u16],
+    takes: &[u8],
+    puts: &[u8],
+    others: &[u8],
+    order: &mut [u8],
+) -> Listed
     ensures { λ r. ⌜ r ≡ listingAnswer (now (codes .entry)) (now (takes .entry)) (now (puts .entry)) (now (others .entry)) (length (now (order .entry))) ⌝ }
     ensures { λ r. ⌜ now (order .exit) ≡ listingAfter (now (codes .entry)) (now (takes .entry)) (now (puts .entry)) (now (others .entry)) (now (order .entry)) ⌝ }
 {

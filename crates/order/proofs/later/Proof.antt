@@ -4,8 +4,6 @@ use mathlib.Core.Logic.{inl, inr}
 use native.Mathlib.Omega.{arith}
 use Rattle.order.proofs.later.Statement.{statement}
 use Rattle.order.proofs.later.Tie as tie
-use Rattle.order.proofs.later.Reads as reads
-use Rattle.order.proofs.later.Lts as lts
 
 returns : tie.Need-returns
 returns c = record { first = omega arith; second = omega arith; one = inr refl }

@@ -1,6 +1,6 @@
 -- `order::list_order` meets its contract: rows that fit are laid out behind the place of the takes, then merged there. Assumes nothing.
 use mathlib.Core.Path.{_≡_, refl, sym, _∙_, ap}
-use mathlib.Core.Bool.{true, false}
+use mathlib.Core.Bool.{true}
 use mathlib.Core.List.{List, map}
 use Prim.Native.Nat.{ℕ, _+_, _≤_}
 use native.Mathlib.Omega.{arith}
@@ -9,17 +9,12 @@ use borrow.Author.Tests.{not-true, not-false}
 use lib.ListN.{length}
 use lib.Seq.{sets, length-sets}
 use Rattle.order.specs.Order.{merge}
-use Rattle.order.specs.Listing.{bare, pairs, fits}
+use Rattle.order.specs.Listing.{bare, pairs, rowsFit}
 use Rattle.order.specs.Weaving.{part}
 use Rattle.order.proofs.FitLaws.{fits-true, answer-unfit, answer-done}
 use Rattle.order.proofs.WeavingLaws.{listing-laid, listing-long}
 use Rattle.order.proofs.list_order.Statement.{statement}
 use Rattle.order.proofs.list_order.Tie as tie
-use Rattle.order.proofs.list_order.Reads as reads
-use Rattle.order.proofs.list_order.Lts as lts
-use Rattle.order.proofs.merge_rows.Reads as merge-rows-reads
-use Rattle.order.proofs.put_row.Reads as put-row-reads
-use Rattle.order.proofs.rows_fit.Reads as rows-fit-reads
 
 -- past the test the rows fit
 module _ (c : tie.Else1) where
@@ -38,7 +33,7 @@ module _ (c : tie.Else1) where
   abbrev order : List ℕ
   order = c .before .before .before .before .before .before .before .args .order .now
 
-  fitting : fits (length takes) (length puts) (length others) (length order) ≡ true
+  fitting : rowsFit (length takes) (length puts) (length others) (length order) ≡ true
   fitting = sym (c .before .rows-fit .ensures) ∙ not-false (c .before .rows-fit .result) (c .if1 .left)
 
   together : (length takes ≡ length puts) × (length puts + length others + length takes ≤ length order)
@@ -90,8 +85,8 @@ returns-2 c =
     let laid = c .before .before .before .before .before .before .put-row2 .ensures ∙ ap (λ (l : List ℕ). sets l (m + length (puts f)) (others f)) (c .before .before .before .before .before .before .before .before .before .before .put-row .ensures) in
     let merged = c .before .before .merge-rows .ensures ∙ ap (λ (l : List ℕ). sets l 0 (merge (map bare (codes f)) (part m e l) (pairs (takes f) (puts f)))) laid in
     answer-done (codes f) (takes f) (puts f) (others f) (order f) (c .before .before .merge-rows .last .1 .1 .1 .0) e (fitting f)
-      (listing-long (codes f) (takes f) (puts f) (others f) (together f .0))
-      (merged ∙ listing-laid (codes f) (takes f) (puts f) (others f) (order f) e (together f .0) refl (omega (arith, together f)))
+    (listing-long (codes f) (takes f) (puts f) (others f) (together f .0))
+    (merged ∙ listing-laid (codes f) (takes f) (puts f) (others f) (order f) e (together f .0) refl (omega (arith, together f)))
 
 pub list-order-spec : {M : Type 1} → statement M
 list-order-spec =

@@ -2,22 +2,17 @@
 -- Assumes nothing.
 use mathlib.Core.Path.{_≡_, _∙_, ap}
 use mathlib.Core.List.{List, map}
-use Prim.Native.Nat.{ℕ, _+_, _-_, _≤_, _<_}
+use Prim.Native.Nat.{ℕ, _-_, _≤_, _<_}
 use native.Mathlib.Omega.{arith}
 use lib.ListN.{length}
 use lib.Seq.{length-sets}
 use Rattle.order.specs.Listing.{bare}
 use Rattle.order.specs.Weaving.{at, part}
 use Rattle.order.proofs.NotingLaws.{ends-start, noted-start}
-use Rattle.order.proofs.WeavingLaws.{Reaching, reaching, Woven, woven-start, woven-next, woven-end}
+use Rattle.order.proofs.ReachingLaws.{Reaching, reaching}
+use Rattle.order.proofs.WeavingLaws.{Woven, woven-start, woven-next, woven-end}
 use Rattle.order.proofs.merge_rows.Statement.{statement}
 use Rattle.order.proofs.merge_rows.Tie as tie
-use Rattle.order.proofs.merge_rows.Reads as reads
-use Rattle.order.proofs.merge_rows.Lts as lts
-use Rattle.order.proofs.later.Reads as later-reads
-use Rattle.order.proofs.note_ends.Reads as note-ends-reads
-use Rattle.order.proofs.note_needs.Reads as note-needs-reads
-use Rattle.order.proofs.shift.Reads as shift-reads
 
 abbrev Inv-loop : tie.InvT-loop
 Inv-loop codes takes puts order₀ e m ends needs k₀ i₀ out₀ order k i out = Woven (map bare codes) takes puts order₀ e order k i out
@@ -113,10 +108,10 @@ module _ (x : tie.After-later2 Inv-loop μ-loop) where
   reached : Reaching (map bare codes) (at takes i) (at puts i) order k r end
   reached =
       reaching codes order (x .before .before .before .before .before .before .before .before .before .note-ends .last .1 .1 .1 .0) (x .before .before .before .before .before .before .note-needs .last .1 .1 .0) (length takes) k end
-        (x .before .before .before .before .before .before .before .before .before .note-ends .ensures) (x .before .before .before .before .before .before .note-needs .ensures) (woven .low) (woven .high)
-        (λ q. x .before .before .before .before .before .before .before .before .before .before .before .before .slice-known .given q .fits) (at takes i) (at puts i)
-        (x .before .before .before .shared-slice-known4 .given i .fits) (x .before .before .shared-slice-known5 .given i .fits)
-        r (x .before .later .result) (x .before .later .ensures) (x .later2 .ensures)
+      (x .before .before .before .before .before .before .before .before .before .note-ends .ensures) (x .before .before .before .before .before .before .note-needs .ensures) (woven .low) (woven .high)
+      (λ q. x .before .before .before .before .before .before .before .before .before .before .before .before .slice-known .given q .fits) (at takes i) (at puts i)
+      (x .before .before .before .shared-slice-known4 .given i .fits) (x .before .before .shared-slice-known5 .given i .fits)
+      r (x .before .later .result) (x .before .later .ensures) (x .later2 .ensures)
 
 shift-requires : tie.Need-shift-requires Inv-loop μ-loop
 shift-requires c κs =
@@ -156,8 +151,8 @@ loop-again c =
     let x = found c in
     let e = c .before .before .shift .ensures in
     rw (e .1, e .0)
-      (woven-next (map bare (codes x)) (takes x) (puts x) (order x) (end x) (x .before .before .before .before .before .loop .order) (k x) (i x) (out x) (woven x)
-        (r x) (turn x) (omega (arith, turn x, same x)) (fits x) (reached x))
+    (woven-next (map bare (codes x)) (takes x) (puts x) (order x) (end x) (x .before .before .before .before .before .loop .order) (k x) (i x) (out x) (woven x)
+    (r x) (turn x) (omega (arith, turn x, same x)) (fits x) (reached x))
 
 same-length : tie.Need-same-length Inv-loop μ-loop
 same-length c = c .before .loop .inv .long
@@ -167,7 +162,7 @@ returns c =
     let s = c .before .before .before .before .before .before .before .before .before .before .before .before in
     let h = c .before .loop in
     woven-end (map bare (s .args .codes .now)) (s .args .takes .now) (s .args .puts .now) (s .args .order .now) (s .args .e) (h .order) (h .k) (h .i) (h .out) (h .inv)
-      (s .pre .0) (s .pre .1 .1) (c .loop-test .left)
+    (s .pre .0) (s .pre .1 .1) (c .loop-test .left)
 
 pub merge-rows-spec : {M : Type 1} → statement M
 merge-rows-spec =

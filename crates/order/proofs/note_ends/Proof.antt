@@ -1,13 +1,11 @@
 -- `order::note_ends` meets its contract. The invariant: the row's entries before s are noted. Assumes nothing.
 use mathlib.Core.Path.{_≡_}
-use Prim.Native.Nat.{ℕ, _≤_, _-_}
+use Prim.Native.Nat.{_≤_, _-_}
 use native.Mathlib.Omega.{arith}
 use Rattle.order.specs.Weaving.{Ends}
 use Rattle.order.proofs.NotingLaws.{ends-next}
 use Rattle.order.proofs.note_ends.Statement.{statement}
 use Rattle.order.proofs.note_ends.Tie as tie
-use Rattle.order.proofs.note_ends.Reads as reads
-use Rattle.order.proofs.note_ends.Lts as lts
 
 abbrev Inv-loop : tie.InvT-loop
 Inv-loop row k e ends₀ s₀ ends s = (k ≤ s) × ((s ≤ e) × Ends row k ends s)

@@ -4,9 +4,6 @@ use Rattle.order.proofs.NotingLaws.{noted-far, noted-call, noted-return
 use borrow.Author.Needs.{needs}
 use Rattle.order.proofs.note_event.Statement.{statement}
 use Rattle.order.proofs.note_event.Tie as tie
-use Rattle.order.proofs.note_event.Reads as reads
-use Rattle.order.proofs.note_event.Lts as lts
-use Rattle.order.proofs.later.Reads as later-reads
 
 mul-c : tie.Need-mul-c
 mul-c c = search needs

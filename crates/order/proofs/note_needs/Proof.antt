@@ -1,14 +1,11 @@
 -- `order::note_needs` meets its contract. The invariant: the codes below i are noted. Assumes nothing.
 use mathlib.Core.Path.{_≡_}
-use Prim.Native.Nat.{ℕ, _≤_, _-_}
+use Prim.Native.Nat.{_≤_, _-_}
 use native.Mathlib.Omega.{arith}
 use lib.ListN.{length}
 use Rattle.order.specs.Weaving.{Noted}
 use Rattle.order.proofs.note_needs.Statement.{statement}
 use Rattle.order.proofs.note_needs.Tie as tie
-use Rattle.order.proofs.note_needs.Reads as reads
-use Rattle.order.proofs.note_needs.Lts as lts
-use Rattle.order.proofs.note_event.Reads as note-event-reads
 
 abbrev Inv-loop : tie.InvT-loop
 Inv-loop codes ends needs₀ n reach₀ i₀ needs reach i = (i ≤ length codes) × Noted codes ends needs reach i

@@ -1,9 +1,8 @@
 -- `order::put_row` meets its contract. The invariant: the first i entries of w stand from `at` on. Assumes nothing.
 use mathlib.Core.Path.{_≡_, refl, _∙_, ap}
-use Prim.Native.Nat.{ℕ, _≤_, _-_, _+_}
+use Prim.Native.Nat.{ℕ, _≤_, _-_}
 use native.Mathlib.Omega.{arith}
-use mathlib.Core.List.{List}
-use lib.ListN.{length, take, set, getD, length-set}
+use lib.ListN.{length, take, length-set}
 use lib.Seq.{sets, take-length}
 use Rattle.order.proofs.StoreLaws.{sets-next}
 use Rattle.order.proofs.put_row.Statement.{statement}

@@ -6,8 +6,6 @@ use borrow.Author.Tests.{lt-leb}
 use Rattle.order.proofs.FitLaws.{fits-other, fits-same, leb-alike}
 use Rattle.order.proofs.rows_fit.Statement.{statement}
 use Rattle.order.proofs.rows_fit.Tie as tie
-use Rattle.order.proofs.rows_fit.Reads as reads
-use Rattle.order.proofs.rows_fit.Lts as lts
 
 returns : tie.Need-returns
 returns c = let a = c .before .args in sym (fits-other (a .takes) (a .puts) (a .others) (a .room) (c .if1 .taken))

@@ -1,16 +1,13 @@
 -- `order::shift` meets its contract. The invariant: the first i entries are copied; what is still to be copied is as it was, since the copy goes to an earlier place.
 -- Assumes nothing.
 use mathlib.Core.Path.{_≡_, refl, _∙_, ap}
-use Prim.Native.Nat.{ℕ, _≤_, _-_, _+_}
+use Prim.Native.Nat.{ℕ, _≤_, _-_}
 use native.Mathlib.Omega.{arith}
-use mathlib.Core.List.{List}
-use lib.ListN.{length, take, drop, set, getD, length-set}
+use lib.ListN.{length, take, drop, length-set}
 use lib.Seq.{sets}
 use Rattle.order.proofs.StoreLaws.{shift-next}
 use Rattle.order.proofs.shift.Statement.{statement}
 use Rattle.order.proofs.shift.Tie as tie
-use Rattle.order.proofs.shift.Reads as reads
-use Rattle.order.proofs.shift.Lts as lts
 
 abbrev Inv-loop : tie.InvT-loop
 Inv-loop out₀ to k e n i₀ out i = (i ≤ e - k) × ((length out ≡ length out₀) × (out ≡ sets out₀ to (take i (drop k out₀))))

@@ -1,0 +1,3 @@
+pub mod FinalLaws
+pub mod ShownLaws
+pub mod CoreLaws
