@@ -1,18 +1,19 @@
 -- Laws of histories: calls and returns as members, events that are apart, and what every standing history has. Assumes nothing.
-use mathlib.Core.Path.{_≡_, refl, sym, ap, _∙_}
-use mathlib.Core.Logic.{_≢_, _⊎_, inl, inr}
+use mathlib.Core.Path.{_≡_, refl, sym}
+use mathlib.Core.Logic.{_≢_, inl, inr}
 use mathlib.Core.List.{List, [], _∷_, _++_}
-use mathlib.Core.Option.{Option, none, some}
+use mathlib.Core.Option.{Option, none}
 use Prim.Native.Nat.{ℕ, _<_}
 use lib.IntN.{ℤ}
 use Rattle.limits.specs.Lists.{All, Mem, Pw}
-use Rattle.limits.specs.Operations.{Kind, putting, taking, Table}
+use Rattle.limits.specs.Operations.{Kind, putting, Table}
 use Rattle.history.specs.History.{Event, call, ret, Called, Returned, Precedes, beside, answer}
 use Rattle.history.specs.Standing.{CanStand, StandsAfter, Stands}
 use Rattle.history.proofs.ListLaws.{clash, all-mem, mem-left, mem-right}
 
 -- ---- calls and returns as members
 
+-- by recursion over the history
 pub mem-ret : (h : List Event) (o : ℕ) (v : Option ℤ) → Mem (ret o v) h → Returned h o
 mem-ret [] o v m = m
 mem-ret (call b ∷ h) o v (inl e) = clash (cc)
@@ -47,6 +48,7 @@ Apart (call o) (ret p w) = Unit {0}
 Apart (ret o v) (call p) = Unit {0}
 Apart (ret o v) (ret p w) = o ≢ p
 
+-- no event is apart from itself, and being apart goes both ways
 pub apart-irr : (e : Event) → ¬ Apart e e
 apart-irr (call o) a = a refl
 apart-irr (ret o v) a = a refl
@@ -90,10 +92,12 @@ module _ (T : Table) where
   fresh old [] st x m = tt
   fresh old (e ∷ h) st x m = (fresh-at old e x (st .0) m, fresh (old ++ (e ∷ [])) h (st .1) x (mem-left old (e ∷ []) x m))
 
+  -- so every two events are apart
   all-apart : (old h : List Event) → StandsAfter T old h → Pw Apart h
   all-apart old [] st = tt
   all-apart old (e ∷ h) st = (fresh (old ++ (e ∷ [])) h (st .1) e (mem-right old (e ∷ []) e (inl refl)), all-apart (old ++ (e ∷ [])) h (st .1))
 
+  -- a call that stands has an operation of the table
   all-small : (old h : List Event) → StandsAfter T old h → (o : ℕ) → Called h o → o < T .size
   all-small old [] st o m = absurd m
   all-small old (call b ∷ h) st o (inl e) = rw e (st .0 .0)
@@ -108,11 +112,13 @@ module _ (T : Table) where
       all-mem (Apart (call c)) h (fresh old (ret c v ∷ h) st (call c) (call-mem old c (st .0 .1)) .1) (call a) (call-mem h a (p .1)) (sym (p .0))
   all-irr old (ret c v ∷ h) st a (inr p) = all-irr (old ++ (ret c v ∷ [])) h (st .1) a p
 
+  -- a put returns with no sample
   right-silent : (k : Kind) (a : Option ℤ) (x : ℤ) → a ≡ answer k x → k ≡ putting → a ≡ none
   right-silent k a x r e = rw e at r
 
   all-silent : (h : List Event) → All (Right T) h → (o : ℕ) (v : Option ℤ) → Mem (ret o v) h → T .kind o ≡ putting → v ≡ none
   all-silent h r o v m = right-silent (T .kind o) v (beside (ret o v)) (all-mem (Right T) h r (ret o v) m)
 
+  -- the four together
   pub standing : (h : List Event) → Stands T h → All (Right T) h → Sound T h
   standing h st r = record { apart = all-apart [] h st; small = all-small [] h st; irr = all-irr [] h st; silent = all-silent h r }

@@ -1,12 +1,9 @@
 -- Laws of `All`, `Mem` and `Pw` (specs Lists of `limits`), each by recursion over the list. Assumes nothing.
 use mathlib.Core.Path.{_≡_, refl, sym, ap, subst}
-use mathlib.Core.Logic.{_≢_, _⊎_, inl, inr}
+use mathlib.Core.Logic.{_⊎_, inl, inr}
 use mathlib.Core.List.{List, [], _∷_, _++_}
-use Prim.Native.Nat.{ℕ, zero, suc, _≤_, _<_}
-use native.Mathlib.Decide.{ℕ-discrete}
-use native.Mathlib.Nat.{not-suc-le-zero, le-of-suc-le-suc}
+use Prim.Native.Nat.{ℕ}
 use native.Mathlib.Omega.{arith}
-use lib.ListN.{length, getD, length-append}
 use Rattle.limits.specs.Lists.{All, Mem, Pw}
 
 -- two constructors are never equal: `clash (cc)`
@@ -19,10 +16,12 @@ pick (yes p) a b = a
 pick (no p) a b = b
 
 module _ {A : Type 0} where
+  -- what follows for each entry follows for all
   pub all-imp : {P Q : A → Type 0} → ((x : A) → P x → Q x) → (l : List A) → All P l → All Q l
   all-imp f [] h = tt
   all-imp f (x ∷ l) h = (f x (h .0), all-imp f l (h .1))
 
+  -- what all entries have, a member has
   pub all-mem : (P : A → Type 0) (l : List A) → All P l → (x : A) → Mem x l → P x
   all-mem P [] h x m = absurd m
   all-mem P (y ∷ l) h x (inl e) = subst P (sym e) (h .0)
@@ -37,6 +36,7 @@ module _ {A : Type 0} where
   pw-imp f [] q h = tt
   pw-imp f (x ∷ l) q h = (all-imp₂ (λ y. f x y (q .0)) l (q .1) (h .0), pw-imp f l (q .1) (h .1))
 
+  -- of a list in two parts, and of each part
   pub all-append : (P : A → Type 0) (l m : List A) → All P l → All P m → All P (l ++ m)
   all-append P [] m h k = k
   all-append P (x ∷ l) m h k = (h .0, all-append P l m (h .1) k)
@@ -49,10 +49,12 @@ module _ {A : Type 0} where
   all-right P [] m h = h
   all-right P (x ∷ l) m h = all-right P l m (h .1)
 
+  -- what every member has, all entries have
   pub all-of-mem : (P : A → Type 0) (l : List A) → ((x : A) → Mem x l → P x) → All P l
   all-of-mem P [] f = tt
   all-of-mem P (x ∷ l) f = (f x (inl refl), all-of-mem P l (λ y m. f y (inr m)))
 
+  -- a member of a list in two parts is one of either part
   pub mem-append : (l m : List A) (x : A) → Mem x (l ++ m) → Mem x l ⊎ Mem x m
   mem-append [] m x h = inr h
   mem-append (y ∷ l) m x (inl e) = inl (inl e)
@@ -71,6 +73,7 @@ module _ {A : Type 0} where
   mem-right [] m x h = h
   mem-right (y ∷ l) m x h = inr (mem-right l m x h)
 
+  -- of each part, and across the two
   pub pw-append : (R : A → A → Type 0) (l m : List A) → Pw R l → Pw R m → All (λ x. All (R x) m) l → Pw R (l ++ m)
   pw-append R [] m h k c = k
   pw-append R (x ∷ l) m h k c = (all-append (R x) l m (h .0) (c .0), pw-append R l m (h .1) k (c .1))
@@ -87,10 +90,12 @@ module _ {A : Type 0} where
   pw-cross R [] m h = tt
   pw-cross R (x ∷ l) m h = (all-right (R x) l m (h .0), pw-cross R l m (h .1))
 
+  -- two relations give a third
   pub pw-imp₂ : {R S T : A → A → Type 0} → ((x y : A) → R x y → S x y → T x y) → (l : List A) → Pw R l → Pw S l → Pw T l
   pw-imp₂ f [] h k = tt
   pw-imp₂ f (x ∷ l) h k = (all-imp₂ (λ y. f x y) l (h .0) (k .0), pw-imp₂ f l (h .1) (k .1))
 
+  -- one more entry leaves the members, and one less all but that entry
   pub mem-put : (a b : List A) (e x : A) → Mem x (a ++ b) → Mem x (a ++ (e ∷ b))
   mem-put [] b e x m = inr m
   mem-put (y ∷ a) b e x (inl q) = inl q
@@ -106,6 +111,7 @@ module _ {A : Type 0} where
       up (inl q) = inl q
       up (inr n) = inr (inr n)
 
+  -- a list stands before and after a member
   pub mem-split : (c : List A) (e : A) → Mem e c → (a : List A) × (b : List A) × (c ≡ a ++ (e ∷ b))
   mem-split [] e m = absurd m
   mem-split (y ∷ c) e (inl q) = ([], c, rw q)
@@ -116,6 +122,7 @@ module _ {A : Type 0} where
   pw-cut R a b e h =
       pw-append R a b (pw-left R a (e ∷ b) h) (pw-right R a (e ∷ b) h .1) (all-imp (λ x r. r .1) a (pw-cross R a (e ∷ b) h))
 
+  -- the same of every entry
   pub all-cut : (P : A → Type 0) (a b : List A) (e : A) → All P (a ++ (e ∷ b)) → All P (a ++ b)
   all-cut P a b e h = all-append P a b (all-left P a (e ∷ b) h) (all-right P a (e ∷ b) h .1)
 

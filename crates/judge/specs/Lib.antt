@@ -1,0 +1,4 @@
+pub mod Stand
+pub mod Decide
+pub mod Judge
+pub mod Marks

@@ -1,0 +1,4 @@
+pub mod Conditions
+pub mod Decide
+pub mod Verdict
+pub mod Linear

@@ -1,0 +1,1 @@
+// Claims on whole runs, with their proofs; no code of its own.
