@@ -7,4 +7,3 @@ pub mod StandLaws
 pub mod MarkLaws
 pub mod QueueLaws
 pub mod TellLaws
-pub mod Worked

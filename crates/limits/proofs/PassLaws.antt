@@ -8,7 +8,7 @@ use native.Mathlib.Decide.{ℕ-discrete}
 use lib.Dec.{leb, eqb}
 use lib.IntN.{ℤ, pos, negsuc}
 use lib.ListN.{length, getD}
-use borrow.Author.Tests.{leb-true, leb-false, eqb-true, eqb-false}
+use borrow.Author.Tests.{leb-true, leb-false, le-leb, eq-eqb}
 use Rattle.limits.specs.declared.Place.{Place}
 use Rattle.limits.specs.declared.Place.the-variants.{At, Nowhere}
 use Rattle.limits.specs.declared.Refusal.{Refusal}
@@ -17,7 +17,7 @@ use Rattle.limits.specs.declared.Fit.{Fit}
 use Rattle.limits.specs.declared.Fit.the-variants.{Pass, Refused}
 use Rattle.limits.specs.Lists.{lowestFrom, lowest}
 use Rattle.limits.specs.Operations.{putsIn}
-use Rattle.limits.specs.Refusals.{unless, unlessAt, within, together, unfit, unfitAt, strayAt, scheduleRefusal, inputRefusal, isZero}
+use Rattle.limits.specs.Refusals.{unless, unlessAt, within, together, unfit, unfitAt, strayAt, scheduleRefusal, tableRefusal, inputRefusal, isZero}
 use Rattle.limits.proofs.LimitsLaws.{together-lengths}
 
 pub record Passed (threads slots : ℕ) (thread kind : List ℕ) (sample : List ℤ) (schedule : List ℕ) : Type 0 where
@@ -109,3 +109,22 @@ module _ (n t k : ℕ) (x : ℤ) (e : unfit n t k x ≡ false) where
       go (pos (suc y)) false q = absurd (let z : _≡_ {A = ℕ} 0 1 = cc in omega arith)
       go (negsuc y) true q = absurd (let z : _≡_ {A = ℕ} 0 1 = cc in omega arith)
       go (negsuc y) false q = absurd (let z : _≡_ {A = ℕ} 0 1 = cc in omega arith)
+
+-- a search that meets nothing ends nowhere
+nowhere-back : (p : ℕ → Bool) (k n : ℕ) → ((i : ℕ) → k ≤ i → i < k + n → p i ≡ false) → lowestFrom p k n ≡ Nowhere
+unfolding lowestFrom
+nowhere-back p k zero f = refl
+nowhere-back p k (suc n) f = rw (f k (omega arith) (omega arith)) (nowhere-back p (suc k) n (λ i lo hi. f i (omega arith) (omega arith)))
+
+-- what passes 1 to 8 passes 1, 3, 4 and 5
+pub table-passed : (threads slots : ℕ) (thread kind : List ℕ) (sample : List ℤ) (schedule : List ℕ) → Passed threads slots thread kind sample schedule → tableRefusal threads thread kind sample ≡ Pass
+unfolding tableRefusal
+table-passed threads slots thread kind sample schedule p =
+    rw (
+      le-leb 1 threads (p .some),
+      le-leb threads 16 (p .threads-most),
+      eq-eqb (length kind) (length thread) (p .kinds),
+      eq-eqb (length sample) (length thread) (p .samples),
+      le-leb (length thread) 128 (p .few),
+      nowhere-back (unfitAt threads thread kind sample) 0 (length thread) (λ i lo hi. p .fit i (omega arith)),
+    )

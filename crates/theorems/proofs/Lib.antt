@@ -1,2 +1,5 @@
 pub mod OrderLaws
 pub mod JudgedLaws
+pub mod WorkedLaws
+pub mod ClaimLaws
+pub mod Claims

@@ -1,0 +1,3 @@
+pub mod SayLaws
+pub mod EntryLaws
+pub mod OnlyLaws

@@ -1,0 +1,4 @@
+pub mod RunText
+pub mod Reading
+pub mod Answers
+pub mod Twins

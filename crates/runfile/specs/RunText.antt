@@ -1,0 +1,62 @@
+-- The text of a run (document 01, 'Run files'): one record a line, fields parted by one tab, each line ended by a line feed, the last one
+-- too. First the threads, then the slots, then all operations, then the schedule. Assumes nothing.
+--   threadsWord ..   the words that records begin with
+--   fields f g       two fields, parted by a tab (byte 9)
+--   pairLine w n     the line of a word and a number
+--   putLine t x      the line of a put: its thread and its sample
+--   ended l rest     the line l, ended by a line feed (byte 10), and the text after it
+--   opsText          the lines of a table's operations, where kind 1 is a put and any other a take
+--   stepsText        the lines of a schedule
+--   runText          the whole text
+use mathlib.Core.Bool.{cond}
+use mathlib.Core.List.{List, [], _∷_, _++_}
+use Prim.Native.Nat.{ℕ}
+use lib.Dec.{eqb}
+use lib.IntN.{ℤ}
+use Rattle.numerals.specs.Decimal.{decimal}
+use Rattle.numerals.specs.Samples.{sampleText}
+
+abbrev pub threadsWord : List ℕ
+threadsWord = 116 ∷ 104 ∷ 114 ∷ 101 ∷ 97 ∷ 100 ∷ 115 ∷ []
+
+abbrev pub slotsWord : List ℕ
+slotsWord = 115 ∷ 108 ∷ 111 ∷ 116 ∷ 115 ∷ []
+
+abbrev pub putWord : List ℕ
+putWord = 112 ∷ 117 ∷ 116 ∷ []
+
+abbrev pub takeWord : List ℕ
+takeWord = 116 ∷ 97 ∷ 107 ∷ 101 ∷ []
+
+abbrev pub stepWord : List ℕ
+stepWord = 115 ∷ 116 ∷ 101 ∷ 112 ∷ []
+
+abbrev pub fields : List ℕ → List ℕ → List ℕ
+fields f g = f ++ (9 ∷ g)
+
+abbrev pub pairLine : List ℕ → ℕ → List ℕ
+pairLine w n = fields w (decimal n)
+
+abbrev pub putLine : ℕ → ℤ → List ℕ
+putLine t x = fields putWord (fields (decimal t) (sampleText x))
+
+abbrev pub ended : List ℕ → List ℕ → List ℕ
+ended l rest = l ++ (10 ∷ rest)
+
+abbrev pub opLine : ℕ → ℕ → ℤ → List ℕ
+opLine t k x = cond (eqb k 1) (putLine t x) (pairLine takeWord t)
+
+-- lists that differ in length are refused (3): where one ends, so does the text
+abbrev pub opsText : List ℕ → List ℕ → List ℤ → List ℕ
+opsText [] kind sample = []
+opsText (t ∷ thread) [] sample = []
+opsText (t ∷ thread) (k ∷ kind) [] = []
+opsText (t ∷ thread) (k ∷ kind) (x ∷ sample) = ended (opLine t k x) (opsText thread kind sample)
+
+abbrev pub stepsText : List ℕ → List ℕ
+stepsText [] = []
+stepsText (t ∷ schedule) = ended (pairLine stepWord t) (stepsText schedule)
+
+unfoldable pub runText : ℕ → ℕ → List ℕ → List ℕ → List ℤ → List ℕ → List ℕ
+runText threads slots thread kind sample schedule =
+    ended (pairLine threadsWord threads) (ended (pairLine slotsWord slots) (opsText thread kind sample ++ stepsText schedule))
