@@ -188,13 +188,13 @@ pub(crate) fn read_ops(
     requires { ⌜ (length (now text) ≤ 65536) × ((from ≤ length (now text)) × (first ≤ from + 1)) ⌝ }
     ensures { λ r. ⌜ OpsSays (now (text .entry)) from first (now (thread .entry)) (now (kind .entry)) (now (sample .entry)) (now (thread .exit)) (now (kind .exit)) (now (sample .exit)) (r .count) (r .place) (r .line) ⌝ }
 {
-    let n = text.len();
+    let end = text.len();
     let mut a = from;
     let mut k = first;
     let mut count: usize = 0;
     loop {
         let e = find(text, a, 10);
-        if n <= e {
+        if end <= e {
             return Ops {
                 count: count,
                 place: a,

@@ -1,3 +1,4 @@
 pub mod FinalLaws
 pub mod ShownLaws
 pub mod CoreLaws
+pub mod OnlyLaws

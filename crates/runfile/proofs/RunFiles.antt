@@ -3,10 +3,13 @@
 --   read-only, write-only   two answers that meet a contract are equal, and so are the lists that they leave
 --   read-write              reading what was written gives the same numbers and the same lists
 --   write-read              writing what was read gives the same bytes
---   no-run                  a text with a line that is not as written is the text of no run that passes
+--   IsRun                   the text is that of numbers which a run file can hold
+--   wrong-none, read-or-wrong
+--                           a text has a line that is not as written exactly where it is the text of no such run
 use mathlib.Core.Path.{_≡_, refl, sym, _∙_, ap}
 use mathlib.Core.Bool.{Bool, true, false, cond}
 use mathlib.Core.List.{List}
+use mathlib.Core.Logic.{_⊎_, inl, inr}
 use Prim.Native.Nat.{ℕ, _≤_}
 use native.Mathlib.Omega.{arith}
 use lib.Dec.{leb}
@@ -25,11 +28,11 @@ use Rattle.runfile.specs.declared.Written.the-variants as Wr
 use Rattle.runfile.specs.RunText.{runText}
 use Rattle.runfile.specs.Reading.{File, file, wrong, readOf}
 use Rattle.runfile.specs.Answers.{over, readFit, readAs, fileAnswer, readAnswer, threadIn, kindIn, sampleIn, scheduleIn, filled, ReadSays, writeAs, writeAnswer, written, WriteSays}
-use Rattle.runfile.specs.Twins.{Fitting}
+use Rattle.runfile.specs.RunText.{Fitting}
 use Rattle.runfile.proofs.InputLaws.{passed}
 use Rattle.runfile.proofs.FitLaws.{all-room, fit-room}
 use Rattle.runfile.proofs.TextLaws.{all-fit, text-short}
-use Rattle.runfile.proofs.Round.{read-text, text-read}
+use Rattle.runfile.proofs.Round.{Fits, read-text, passed-fits, text-read, read-fits}
 
 -- ---- one answer only, since each part of a contract is an equation
 pub read-only : {s thread₀ kind₀ : List ℕ} {sample₀ : List ℤ} {schedule₀ : List ℕ} {r r′ : Read} {thread thread′ kind kind′ : List ℕ} {sample sample′ : List ℤ} {schedule schedule′ : List ℕ}
@@ -130,7 +133,7 @@ read-write {threads} {slots} {thread} {kind} {sample} {schedule} {text₀} {text
     let whole = runText threads slots thread kind sample schedule in
     let same : take b text ≡ whole = taken whole text₀ text b (w .bytes) (x .1) in
     let short : length (take b text) ≤ 65536 = rw same (text-short p (all-fit sample f)) in
-    let read : readOf (take b text) ≡ file threads slots thread kind sample schedule = ap readOf same ∙ read-text p (all-fit sample f) in
+    let read : readOf (take b text) ≡ file threads slots thread kind sample schedule = ap readOf same ∙ read-text (passed-fits p (all-fit sample f)) in
     let lk = p .kinds in
     let lx = p .samples in
     let fit : readFit (length thread₀) (length kind₀) (length sample₀) (length schedule₀) threads slots thread kind sample schedule ≡ Pass =
@@ -170,10 +173,30 @@ write-read {s} {thread₀} {kind₀} {sample₀} {schedule₀} {n} {m} {o} {t} {
     let e : r ≡ Wr.Bytes (length s) = w .answer ∙ rw (input, whole, le-leb (length s) (length text₀) h) in
     (e, w .bytes ∙ (λ i. written (e i) (whole i) text₀))
 
--- a wrong line is no reader's whim: no input that passes has such a text
-pub no-run : (s : List ℕ) (k threads slots : ℕ) (thread kind : List ℕ) (sample : List ℤ) (schedule : List ℕ) → readOf s ≡ wrong k
-    → inputRefusal threads slots thread kind sample schedule ≡ Pass → Fitting sample → runText threads slots thread kind sample schedule ≡ s → ⊥
-no-run s k threads slots thread kind sample schedule e p f t =
-    let a : file threads slots thread kind sample schedule ≡ wrong k = sym (read-text (passed threads slots thread kind sample schedule p) (all-fit sample f)) ∙ ap readOf t ∙ e in
+-- ---- refusal 11 exactly where no run has the text
+-- a text is as written where it is the text of numbers that a run file can hold
+pub record IsRun (s : List ℕ) : Type 0 where
+  pub threads : ℕ
+  pub slots : ℕ
+  pub thread : List ℕ
+  pub kind : List ℕ
+  pub sample : List ℤ
+  pub schedule : List ℕ
+  pub fits : Fits threads slots thread kind sample schedule
+  pub text : runText threads slots thread kind sample schedule ≡ s
+
+-- a text with a wrong line is the text of no run
+pub wrong-none : (s : List ℕ) (k : ℕ) → readOf s ≡ wrong k → IsRun s → ⊥
+wrong-none s k e r =
+    let a : file (r .threads) (r .slots) (r .thread) (r .kind) (r .sample) (r .schedule) ≡ wrong k = sym (read-text (r .fits)) ∙ ap readOf (r .text) ∙ e in
     let z : _≡_ {A = ℕ} 0 1 = cc in
     omega arith
+
+-- a text with no wrong line is the text of what was read
+pub read-or-wrong : (s : List ℕ) → IsRun s ⊎ ((k : ℕ) × (readOf s ≡ wrong k))
+read-or-wrong s = go (readOf s) refl
+  where
+    go : (f : File) → readOf s ≡ f → IsRun s ⊎ ((k : ℕ) × (readOf s ≡ wrong k))
+    go (file n m ts ks xs ss) e =
+        inl (record { threads = n; slots = m; thread = ts; kind = ks; sample = xs; schedule = ss; fits = read-fits s n m ts ks xs ss e; text = text-read s n m ts ks xs ss e })
+    go (wrong k) e = inr (k, e)

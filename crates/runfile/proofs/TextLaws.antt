@@ -17,7 +17,7 @@ use Rattle.numerals.proofs.PrintLaws.{decimal-short}
 use Rattle.numerals.proofs.SampleLaws.{sample-short}
 use Rattle.limits.specs.Refusals.{isZero, unfit}
 use Rattle.runfile.specs.RunText.{takeWord, pairLine, putLine, opLine, opsText, stepsText, runText}
-use Rattle.runfile.specs.Twins.{Fitting}
+use Rattle.runfile.specs.RunText.{Fitting}
 use Rattle.runfile.proofs.InputLaws.{Passed, GoodOps, GoodSteps, passed-ops, passed-steps}
 
 abbrev pub AllFit : List ℤ → Type 0

@@ -8,11 +8,15 @@
 --   opsText          the lines of a table's operations, where kind 1 is a put and any other a take
 --   stepsText        the lines of a schedule
 --   runText          the whole text
+--   Fitting          each sample of a list fits 32 signed bits
 use mathlib.Core.Bool.{cond}
 use mathlib.Core.List.{List, [], _∷_, _++_}
-use Prim.Native.Nat.{ℕ}
+use Prim.Native.Nat.{ℕ, _<_}
 use lib.Dec.{eqb}
-use lib.IntN.{ℤ}
+use lib.IntN.{ℤ, pos}
+use lib.ListN.{length, getD}
+use mir.Syntax.{w32}
+use mir.Val.{SFits}
 use Rattle.numerals.specs.Decimal.{decimal}
 use Rattle.numerals.specs.Samples.{sampleText}
 
@@ -60,3 +64,6 @@ stepsText (t ∷ schedule) = ended (pairLine stepWord t) (stepsText schedule)
 unfoldable pub runText : ℕ → ℕ → List ℕ → List ℕ → List ℤ → List ℕ → List ℕ
 runText threads slots thread kind sample schedule =
     ended (pairLine threadsWord threads) (ended (pairLine slotsWord slots) (opsText thread kind sample ++ stepsText schedule))
+
+abbrev pub Fitting : List ℤ → Type 0
+Fitting sample = (i : ℕ) → i < length sample → SFits w32 (getD sample i (pos 0))

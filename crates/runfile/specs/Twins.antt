@@ -1,16 +1,11 @@
 -- Nothing here has to be believed: notions that the contracts of private functions need.
 --   until x s   how many bytes stand before the first x, or in all
 --   Free x s    no byte of s is x
---   Fitting     each sample of a list fits 32 signed bits
 use mathlib.Core.Path.{_≡_}
 use mathlib.Core.Bool.{false, cond}
 use mathlib.Core.List.{List, [], _∷_}
-use Prim.Native.Nat.{ℕ, suc, _<_}
+use Prim.Native.Nat.{ℕ, suc}
 use lib.Dec.{eqb}
-use lib.IntN.{ℤ, pos}
-use lib.ListN.{length, getD}
-use mir.Syntax.{w32}
-use mir.Val.{SFits}
 
 abbrev pub until : ℕ → List ℕ → ℕ
 until x [] = 0
@@ -20,5 +15,3 @@ abbrev pub Free : ℕ → List ℕ → Type 0
 Free x [] = Unit {0}
 Free x (c ∷ s) = (eqb c x ≡ false) × Free x s
 
-abbrev pub Fitting : List ℤ → Type 0
-Fitting sample = (i : ℕ) → i < length sample → SFits w32 (getD sample i (pos 0))

@@ -36,7 +36,7 @@ use Rattle.runfile.specs.declared.Read.the-variants.{Run}
 use Rattle.runfile.specs.declared.Written.{Written}
 use Rattle.runfile.specs.declared.Written.the-variants.{Bytes}
 use Rattle.runfile.specs.Answers.{over, ReadSays, WriteSays}
-use Rattle.runfile.specs.Twins.{Fitting}
+use Rattle.runfile.specs.RunText.{Fitting}
 use Rattle.runfile.proofs.RunFiles.{read-write, write-read}
 use Rattle.theorems.specs.Demand.{Linearized}
 use Rattle.theorems.specs.Worked.{Worked}

@@ -2,6 +2,8 @@
 use mathlib.Core.Path.{_≡_, refl}
 use native.Mathlib.Decide.{ℕ-discrete, decLt}
 use Rattle.limits.specs.Lists.{lowestFrom}
+use Rattle.limits.specs.Operations.{putsIn}
+use Rattle.limits.specs.Refusals.{scheduleRefusal, inputRefusal}
 use Rattle.order.specs.Order.{merge}
 use Rattle.machine.specs.Bench.{start, played, step, ownFrom, resting}
 use Rattle.machine.specs.Counts.{over}
@@ -13,5 +15,5 @@ use Rattle.judge.specs.Judge.{eventRefusal, judgeRefusal, judged}
 use Rattle.theorems.specs.Worked.{Worked}
 
 pub worked : Worked
-unfolding played start step ownFrom resting unfound merge over ℕ-discrete decLt lowestFrom verdict judged judgeRefusal eventRefusal stands? not20? not21? not22? not23? not24?
+unfolding inputRefusal scheduleRefusal putsIn played start step ownFrom resting unfound merge over ℕ-discrete decLt lowestFrom verdict judged judgeRefusal eventRefusal stands? not20? not21? not22? not23? not24?
 worked = record { a = refl; b = refl; c = refl; d = refl; e = refl; f = refl; g = refl; h = refl; i-0 = refl; i-24 = refl; i-22 = refl; i-23 = refl; i-20 = refl }

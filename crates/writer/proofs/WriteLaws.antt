@@ -24,7 +24,7 @@ use Rattle.limits.specs.Refusals.{inputRefusal}
 use Rattle.runfile.specs.declared.Written.the-variants as Wr
 use Rattle.runfile.specs.RunText.{threadsWord, slotsWord, putWord, stepWord, pairLine, putLine, opLine, ended, opsText, stepsText, runText}
 use Rattle.runfile.specs.Answers.{writeAnswer, WriteSays}
-use Rattle.runfile.specs.Twins.{Fitting}
+use Rattle.runfile.specs.RunText.{Fitting}
 use Rattle.runfile.proofs.InputLaws.{passed}
 use Rattle.runfile.proofs.FitLaws.{over-sets}
 use Rattle.runfile.proofs.TextLaws.{all-fit, text-short}

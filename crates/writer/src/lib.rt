@@ -5,7 +5,7 @@ ghost use lib.ListN.{length};
 ghost use Rattle.numerals.specs.Places.{Put};
 ghost use Rattle.runfile.specs.RunText.{pairLine, putLine, ended, opLine, opsText, stepsText, runText};
 ghost use Rattle.runfile.specs.Answers.{WriteSays};
-ghost use Rattle.runfile.specs.Twins.{Fitting};
+ghost use Rattle.runfile.specs.RunText.{Fitting};
 use limits::Fit;
 use limits::Refusal;
 use runfile::Written;
