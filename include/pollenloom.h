@@ -3,7 +3,7 @@
  * judge of the orders that anyone proposes for such a history. The words and numbers are those of document 01.
  *
  * Link with target/staticlib/liboutside.a (x86-64 Linux), which `rt staticlib outside` proves and writes. Each function here is
- * proved to answer every input as its comment says; crates/outside/specs/Outside.antt is the exact statement.
+ * proved to answer every input as its comment says; crates/outside/specs/Outside.antt and Texts.antt are the exact statement.
  *
  * How a list is passed
  *   Each list is two arguments: a pointer to its first entry, and how many entries it has. A list behind a pointer to const is
@@ -24,6 +24,7 @@
  *   schedule               the thread that makes each step
  *   codes, samples         a history: 2 * operation for a call, 2 * operation + 1 for a return; beside it the sample that a returned
  *                          take got, else 0. Two lists of one length
+ *   text                   the bytes of a run file
  */
 #ifndef POLLENLOOM_H
 #define POLLENLOOM_H
@@ -40,6 +41,7 @@ extern "C" {
 #define POLLENLOOM_MOST_SLOTS 64
 #define POLLENLOOM_MOST_OPERATIONS 128
 #define POLLENLOOM_MOST_STEPS 4096
+#define POLLENLOOM_MOST_BYTES 65536
 
 /* The codes of a thread's phase, in the list `phases`. */
 enum pollenloom_phase {
@@ -73,6 +75,23 @@ typedef struct {
     size_t detail;
     size_t verdict;   /* 0: a linearization; 20 to 24: the first fault of the whole order */
 } pollenloom_judge_answer;
+
+/* What a run file holds. */
+typedef struct {
+    size_t refusal;   /* 0: accepted */
+    size_t detail;
+    size_t threads;
+    size_t slots;
+    size_t operations;   /* entries written to thread, kind and sample */
+    size_t steps;        /* entries written to schedule */
+} pollenloom_read_answer;
+
+/* A text made. */
+typedef struct {
+    size_t refusal;   /* 0: accepted */
+    size_t detail;
+    size_t bytes;     /* bytes written to text */
+} pollenloom_text_answer;
 
 /*
  * Plays the schedule and writes what the run shows. The lent lists, and how long each has to be at least:
@@ -111,6 +130,30 @@ pollenloom_judge_answer pollenloom_judge(
     const uint16_t *codes, size_t codes_length,
     const int32_t *samples, size_t samples_length,
     const uint8_t *order, size_t order_length);
+
+/*
+ * Reads a run file. Writes its operations to the first `operations` entries of thread, kind and sample, and its schedule to the
+ * first `steps` of schedule; no entry after these changes. Refuses 12, 11, then 1, 2, 4 to 9: a lent list has to have room for what
+ * the text has.
+ */
+pollenloom_read_answer pollenloom_read(
+    const uint8_t *text, size_t text_length,
+    uint8_t *thread, size_t thread_length,
+    uint8_t *kind, size_t kind_length,
+    int32_t *sample, size_t sample_length,
+    uint8_t *schedule, size_t schedule_length);
+
+/*
+ * Writes the run file of a run's input to the first `bytes` bytes of text, with no byte 0 at its end; none after these changes.
+ * Reading it gives the same lists. Refuses 1 to 9: text has to have room for the whole run file.
+ */
+pollenloom_text_answer pollenloom_write(
+    size_t threads, size_t slots,
+    const uint8_t *thread, size_t thread_length,
+    const uint8_t *kind, size_t kind_length,
+    const int32_t *sample, size_t sample_length,
+    const uint8_t *schedule, size_t schedule_length,
+    uint8_t *text, size_t text_length);
 
 #ifdef __cplusplus
 }

@@ -1,11 +1,11 @@
 -- What a run says, told in numbers: refused, every lent list is as it was; accepted, the record lists show the bench's threads. Assumes nothing.
 use mathlib.Core.Path.{_≡_, refl, sym, ap, _∙_}
 use mathlib.Core.Bool.{Bool, true, false, cond, _&&_, false≢true}
-use mathlib.Core.List.{List, [], _∷_, _++_, map}
+use mathlib.Core.List.{List, _++_, map}
 use Prim.Native.Nat.{ℕ, _*_, _≤_, _<_}
 use native.Mathlib.Omega.{arith}
 use lib.Dec.{leb}
-use lib.IntN.{ℤ, pos}
+use lib.IntN.{ℤ}
 use lib.ListN.{length, getD, drop, replicate, length-map, List·getD-append, List·getD-map}
 use borrow.Author.Tests.{leb-true, leb-false}
 use Rattle.limits.specs.declared.Refusal.{Refusal}
@@ -24,13 +24,12 @@ use Rattle.machine.specs.Shown.{phaseCode, phaseNumber, phaseEnd, recordOf, rec
 use Rattle.machine.proofs.RunLaws.{run-played, puts-fit, workers-length}
 use Rattle.run.specs.declared.Summary.{Summary}
 use Rattle.run.specs.declared.Final.{Final}
-use Rattle.run.specs.declared.Outcome.{Outcome}
 use Rattle.run.specs.declared.Outcome.the-variants.{Ran, Refused}
-use Rattle.run.specs.Run.{Room, roomOf, hasRoom, runFit, benchAfter, summaryOf, answerOf, outcomeOf, lentAfter, restRecord, recordsAfter, RunSays}
+use Rattle.run.specs.Run.{Room, hasRoom, runFit, benchAfter, summaryOf, answerOf, lentAfter, restRecord, recordsAfter, RunSays}
 use Rattle.run.specs.FinalTwin.{tab}
 use Rattle.run.proofs.ShownLaws.{tab-map}
 use Rattle.outside.specs.declared.RunAnswer.{RunAnswer}
-use Rattle.outside.specs.Outside.{runNumbers, Lent, lentOf, lower, least, roomIn, lentThen, RunTells}
+use Rattle.outside.specs.Outside.{runNumbers, Lent, lentOf, lower, least, roomIn, RunTells}
 use Rattle.outside.specs.RecordTwin.{codeAt, numberAt, endAt}
 
 -- ---- the lowest of three numbers is below each
@@ -103,7 +102,7 @@ module _ (threads slots : ℕ) (thread kind : List ℕ) (sample : List ℤ) (sch
     pub rooms : Rooms
     rooms =
         let k = leb-true threads (R .records)
-            (last-holds (leb (2 * length thread) (R .codes) && leb (2 * length thread) (R .samples) && leb (length thread) (R .order) && leb slots (R .marks) && leb slots (R .held)) (leb threads (R .records)) (parts .1)) in
+        (last-holds (leb (2 * length thread) (R .codes) && leb (2 * length thread) (R .samples) && leb (length thread) (R .order) && leb slots (R .marks) && leb slots (R .held)) (leb threads (R .records)) (parts .1)) in
         let j = least-low (length (l .phases)) (length (l .numbers)) (length (l .ends)) threads k in
         record { most = passed .threads-most; phases = j .0; numbers = j .1; ends = j .2 }
 
@@ -119,7 +118,7 @@ module _ (threads slots : ℕ) (thread kind : List ℕ) (sample : List ℤ) (sch
         let n : length (map (λ (w : Worker). f (w .phase)) (B .workers)) ≡ threads = length-map (B .workers) (λ (w : Worker). f (w .phase)) ∙ many in
         rw passes
         (ap (λ (x : List A). x ++ drop threads out) (tab-map (λ (w : Worker). f (w .phase)) idler (B .workers) threads (λ t. f (getD rs t restRecord .phase)) many shown)
-            ∙ ap (λ (k : ℕ). map (λ (w : Worker). f (w .phase)) (B .workers) ++ drop k out) (sym n))
+        ∙ ap (λ (k : ℕ). map (λ (w : Worker). f (w .phase)) (B .workers) ++ drop k out) (sym n))
       where
         listed : rs ≡ records B ++ drop threads (replicate 16 restRecord)
         listed = rw passes at e
@@ -128,7 +127,7 @@ module _ (threads slots : ℕ) (thread kind : List ℕ) (sample : List ℤ) (sch
         shown t lt =
             let low : t < length (records B) = omega (arith, length-map (B .workers) recordOf, many) in
             ap (λ (x : List ThreadRecord). f (getD x t restRecord .phase)) listed
-                ∙ ap (λ (x : ThreadRecord). f (x .phase)) (List·getD-append (records B) (drop threads (replicate 16 restRecord)) restRecord t low ∙ List·getD-map recordOf (B .workers) t idler)
+            ∙ ap (λ (x : ThreadRecord). f (x .phase)) (List·getD-append (records B) (drop threads (replicate 16 restRecord)) restRecord t low ∙ List·getD-map recordOf (B .workers) t idler)
 
   module _ (cs : List ℕ) (vs : List ℤ) (os ms : List ℕ) (hs : List ℤ) (last : Final)
       (says : RunSays threads slots thread kind sample schedule (R .records) (l .codes) (l .samples) (l .order) (l .marks) (l .held) cs vs os ms hs last) where
@@ -168,3 +167,8 @@ module _ (threads slots : ℕ) (thread kind : List ℕ) (sample : List ℤ) (sch
             answer = answered ∙ ap runNumbers (sym e ∙ says .outcome);
             lists = λ i. lentOf (says .codes i) (says .samples i) (says .order i) (says .marks i) (says .held i) (ph i) (nu i) (en i);
           }
+
+-- one answer, and one state of the lent lists, is told: both are given by equations
+pub run-tells-only : (threads slots : ℕ) (thread kind : List ℕ) (sample : List ℤ) (schedule : List ℕ) (l l′ m′ : Lent) (r q : RunAnswer)
+    → RunTells threads slots thread kind sample schedule l l′ r → RunTells threads slots thread kind sample schedule l m′ q → (r ≡ q) × (l′ ≡ m′)
+run-tells-only threads slots thread kind sample schedule l l′ m′ r q a b = (a .answer ∙ sym (b .answer), a .lists ∙ sym (b .lists))

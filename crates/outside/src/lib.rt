@@ -7,6 +7,7 @@ ghost use Rattle.run.specs.declared.Outcome.the-variants.{Ran, Refused};
 ghost use Rattle.outside.specs.Outside.{lower, least, lentOf, runNumbers, RunTells, judgeNumbers};
 
 mod records;
+pub mod texts;
 
 use judge::Judged;
 use limits::Refusal;
@@ -53,7 +54,7 @@ fn shortest(a: usize, b: usize, c: usize) -> usize
 }
 
 // A refusal's number, as wide as a detail.
-fn number(r: Refusal) -> usize
+pub(crate) fn number(r: Refusal) -> usize
     ensures { λ n. ⌜ n ≡ refusalNumber r ⌝ }
 {
     limits::number(r) as usize
@@ -121,7 +122,18 @@ pub extern "C" fn pollenloom_run(
 {
     let room = shortest(phases.len(), numbers.len(), ends.len());
     let last = run::run_core(
-        threads, slots, thread, kind, sample, schedule, codes, values, order, marks, held, room,
+        threads,
+        slots,
+        thread,
+        kind,
+        sample,
+        schedule,
+        codes,
+        values,
+        order,
+        marks,
+        held,
+        room,
     );
     let outcome = last.outcome;
     let shown = last.records;

@@ -2,3 +2,4 @@ pub mod WordLaws
 pub mod LineLaws
 pub mod ParseLaws
 pub mod AnswerLaws
+pub mod ShortLaws

@@ -1,6 +1,7 @@
 -- Nothing here has to be believed: what the private functions of the reader answer, by the definitions of Reading.
 --   PassSays        the place after a word and its tab, where a line begins with them
 --   LineSays        a line of a word and a number, with the place of the next; or that the next line is none
+--   ShortSays       a step of one or two digits, read the short way; nothing is said where that way does not serve
 --   putIn           the put of a line, by its fields
 --   HeadSays        the first two lines, with the place after them
 --   OpsSays         the operations read, and what they leave to be read
@@ -31,7 +32,7 @@ use Rattle.reader.specs.declared.Steps.the-variants as St
 use Rattle.runfile.specs.declared.Read.{Read}
 use Rattle.reader.specs.declared.Parsed.{Parsed}
 use Rattle.reader.specs.declared.Parsed.the-variants as Pa
-use Rattle.runfile.specs.RunText.{putWord}
+use Rattle.runfile.specs.RunText.{putWord, stepWord}
 use Rattle.runfile.specs.Reading.{parts, same, numberAfter, putOf, File, file, wrong, addThreads, addSlots, opsFrom, stepsFrom, threadsThen}
 use Rattle.runfile.specs.Answers.{fileAnswer, threadIn, kindIn, sampleIn, scheduleIn, filled}
 
@@ -49,6 +50,10 @@ abbrev pub LineSays : List ℕ → List ℕ → ℕ → Pair → Type 0
 LineSays w s a (P.Is n next) =
     (l : List ℕ) × ((parts 10 (drop a s) ≡ l ∷ parts 10 (drop next s)) × ((numberAfter w (parts 9 l) ≡ N.Is n) × ((a < next) × (next ≤ length s))))
 LineSays w s a P.Bad = NoPair w (parts 10 (drop a s))
+
+abbrev pub ShortSays : List ℕ → ℕ → Pair → Type 0
+ShortSays s a (P.Is n next) = LineSays stepWord s a (P.Is n next)
+ShortSays s a P.Bad = Unit {0}
 
 abbrev pub putIn : List (List ℕ) → Operation
 putIn [] = O.Bad

@@ -3,10 +3,11 @@ ghost use mathlib.Core.Path.{_≡_};
 ghost use Prim.Native.Nat.{ℕ, _+_, _-_, _≤_, _<_};
 ghost use lib.ListN.{length, take, drop, set};
 ghost use lib.Seq.{sets};
+ghost use Rattle.runfile.specs.RunText.{stepWord};
 ghost use Rattle.runfile.specs.Reading.{parts, numberAfter, operationOf, file, stepsFrom, readOf};
 ghost use Rattle.runfile.specs.Answers.{readFit, ReadSays};
 ghost use Rattle.runfile.specs.Twins.{until, Free};
-ghost use Rattle.reader.specs.Twins.{PassSays, LineSays, putIn, HeadSays, OpsSays, StepsSay, ParsedSays, SettleSays};
+ghost use Rattle.reader.specs.Twins.{PassSays, LineSays, ShortSays, putIn, HeadSays, OpsSays, StepsSay, ParsedSays, SettleSays};
 use limits::Fit;
 use limits::Refusal;
 use numerals::Number;
@@ -110,6 +111,55 @@ pub(crate) fn read_line(text: &[u8], a: usize, w: &[u8]) -> Pair
         return Pair::Bad;
     };
     Pair::Is(v, e + 1)
+}
+
+// The line that begins at a, where it is a step of one or two digits and not the text's last bytes: most lines of most texts are.
+pub(crate) fn read_short(text: &[u8], a: usize) -> Pair
+    requires { ⌜ a ≤ length (now text) ⌝ }
+    ensures { λ r. ⌜ ShortSays (now (text .entry)) a r ⌝ }
+{
+    if text.len() - a < 8 {
+        return Pair::Bad;
+    }
+    let f = a + 5;
+    if !check::same(&text[a..f], b"step\t") {
+        return Pair::Bad;
+    }
+    let c = text[f];
+    if c < 48 {
+        return Pair::Bad;
+    }
+    if 57 < c {
+        return Pair::Bad;
+    }
+    let d = text[f + 1];
+    if d == 10 {
+        return Pair::Is(c - 48, f + 2);
+    }
+    if c == 48 {
+        return Pair::Bad;
+    }
+    if d < 48 {
+        return Pair::Bad;
+    }
+    if 57 < d {
+        return Pair::Bad;
+    }
+    if text[f + 2] == 10 {
+        return Pair::Is((c - 48) * 10 + (d - 48), f + 3);
+    }
+    Pair::Bad
+}
+
+// The line that begins at a, where it is a step.
+pub(crate) fn read_step(text: &[u8], a: usize) -> Pair
+    requires { ⌜ a ≤ length (now text) ⌝ }
+    ensures { λ r. ⌜ LineSays stepWord (now (text .entry)) a r ⌝ }
+{
+    let Pair::Is(t, next) = read_short(text, a) else {
+        return read_line(text, a, b"step");
+    };
+    Pair::Is(t, next)
 }
 
 // The put of the line from a to e.
@@ -227,7 +277,7 @@ pub(crate) fn read_steps(text: &[u8], from: usize, first: usize, out: &mut [u8])
     let mut k = first;
     let mut count: usize = 0;
     while a < n {
-        let Pair::Is(t, next) = read_line(text, a, b"step") else {
+        let Pair::Is(t, next) = read_step(text, a) else {
             return Steps::Refused(Refusal::Line(k));
         };
         put_at(out, count, t);

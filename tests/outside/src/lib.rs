@@ -1,5 +1,5 @@
 //! Pollenloom for Rust: safe functions over the archive `liboutside.a`. The words and numbers are those of document 01; each function's
-//! exact statement is in `crates/outside/specs/Outside.antt`, and `include/pollenloom.h` says the same to C.
+//! exact statement is in `crates/outside/specs`, and `include/pollenloom.h` says the same to C.
 //!
 //! Rust's own slices meet all that the archive's functions ask of a caller: pointers that are not null, lengths that hold, and lent
 //! lists that nothing else reaches during the call.
@@ -27,6 +27,25 @@ struct JudgeAnswer {
     refusal: usize,
     detail: usize,
     verdict: usize,
+}
+
+/// What `pollenloom_read` returns: `ReadAnswer` of the crate `outside`.
+#[repr(C)]
+struct ReadAnswer {
+    refusal: usize,
+    detail: usize,
+    threads: usize,
+    slots: usize,
+    operations: usize,
+    steps: usize,
+}
+
+/// What `pollenloom_write` returns: `TextAnswer` of the crate `outside`.
+#[repr(C)]
+struct TextAnswer {
+    refusal: usize,
+    detail: usize,
+    bytes: usize,
 }
 
 // A slice is a pointer and a length.
@@ -75,6 +94,34 @@ extern "C" {
         order: *const u8,
         order_length: usize,
     ) -> JudgeAnswer;
+
+    fn pollenloom_read(
+        text: *const u8,
+        text_length: usize,
+        thread: *mut u8,
+        thread_length: usize,
+        kind: *mut u8,
+        kind_length: usize,
+        sample: *mut i32,
+        sample_length: usize,
+        schedule: *mut u8,
+        schedule_length: usize,
+    ) -> ReadAnswer;
+
+    fn pollenloom_write(
+        threads: usize,
+        slots: usize,
+        thread: *const u8,
+        thread_length: usize,
+        kind: *const u8,
+        kind_length: usize,
+        sample: *const i32,
+        sample_length: usize,
+        schedule: *const u8,
+        schedule_length: usize,
+        text: *mut u8,
+        text_length: usize,
+    ) -> TextAnswer;
 }
 
 /// A table of operations: three lists of one length.
@@ -215,4 +262,65 @@ pub fn judge(threads: usize, table: Table, codes: &[u16], samples: &[i32], order
         return Err(Refusal { number: a.refusal, detail: a.detail });
     }
     Ok(a.verdict)
+}
+
+/// What a run file holds.
+#[derive(Clone, Copy, Debug, PartialEq, Eq)]
+pub struct Reading {
+    /// The number of threads.
+    pub threads: usize,
+    /// The number of slots.
+    pub slots: usize,
+    /// Entries written to the three operation lists.
+    pub operations: usize,
+    /// Entries written to the schedule.
+    pub steps: usize,
+}
+
+/// Reads a run file into the lent lists: those of the operations, and the schedule.
+pub fn read(text: &[u8], thread: &mut [u8], kind: &mut [u8], sample: &mut [i32], schedule: &mut [u8]) -> Result<Reading, Refusal> {
+    // Each pointer and length is that of one slice; the lent ones are exclusive, so they overlap nothing.
+    let a = unsafe {
+        pollenloom_read(
+            text.as_ptr(),
+            text.len(),
+            thread.as_mut_ptr(),
+            thread.len(),
+            kind.as_mut_ptr(),
+            kind.len(),
+            sample.as_mut_ptr(),
+            sample.len(),
+            schedule.as_mut_ptr(),
+            schedule.len(),
+        )
+    };
+    if a.refusal != 0 {
+        return Err(Refusal { number: a.refusal, detail: a.detail });
+    }
+    Ok(Reading { threads: a.threads, slots: a.slots, operations: a.operations, steps: a.steps })
+}
+
+/// Writes the run file of a run's input into the lent text: the number of bytes.
+pub fn write(threads: usize, slots: usize, table: Table, schedule: &[u8], text: &mut [u8]) -> Result<usize, Refusal> {
+    // Each pointer and length is that of one slice; the lent one is exclusive, so it overlaps nothing.
+    let a = unsafe {
+        pollenloom_write(
+            threads,
+            slots,
+            table.thread.as_ptr(),
+            table.thread.len(),
+            table.kind.as_ptr(),
+            table.kind.len(),
+            table.sample.as_ptr(),
+            table.sample.len(),
+            schedule.as_ptr(),
+            schedule.len(),
+            text.as_mut_ptr(),
+            text.len(),
+        )
+    };
+    if a.refusal != 0 {
+        return Err(Refusal { number: a.refusal, detail: a.detail });
+    }
+    Ok(a.bytes)
 }

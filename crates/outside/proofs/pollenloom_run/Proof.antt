@@ -1,26 +1,12 @@
 -- `pollenloom_run` meets its contract: it tells in numbers what the run says, and writes the records only of an accepted run. Assumes nothing.
-use mathlib.Core.Path.{_≡_, sym, ap, _∙_}
-use mathlib.Core.List.{List}
-use Prim.Native.Nat.{ℕ, _≤_}
-use lib.IntN.{ℤ}
-use lib.ListN.{length}
-use Rattle.limits.specs.declared.Fit.{Fit}
+use mathlib.Core.Path.{_≡_}
 use Rattle.limits.specs.declared.Fit.the-variants.{Pass}
 use Rattle.run.specs.Run.{runFit, RunSays}
-use Rattle.outside.specs.Outside.{Lent, lentOf, least, roomIn}
+use Rattle.outside.specs.Outside.{Lent, lentOf, roomIn}
 use Rattle.outside.proofs.OutsideLaws.{Rooms, rooms, passes-ran, tells-refused, tells-ran}
 use borrow.Author.Needs.{needs}
 use Rattle.outside.proofs.pollenloom_run.Statement.{statement}
 use Rattle.outside.proofs.pollenloom_run.Tie as tie
-use Rattle.outside.proofs.pollenloom_run.Reads as reads
-use Rattle.outside.proofs.pollenloom_run.Lts as lts
-use Rattle.outside.proofs.accept.Reads as accept-reads
-use Rattle.outside.proofs.records.show_codes.Reads as show-codes-reads
-use Rattle.outside.proofs.records.show_ends.Reads as show-ends-reads
-use Rattle.outside.proofs.records.show_numbers.Reads as show-numbers-reads
-use Rattle.outside.proofs.refuse.Reads as refuse-reads
-use Rattle.outside.proofs.shortest.Reads as shortest-reads
-use Rattle.run.proofs.run_core.Reads as run-core-reads
 
 -- what the run said, with the room that there is
 module _ (s : tie.After-run-core) where

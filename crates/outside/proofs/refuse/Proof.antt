@@ -1,5 +1,4 @@
 -- `refuse` meets its contract: number and detail are those of the refusal. Assumes nothing.
-use mathlib.Core.Path.{_≡_}
 use borrow.Author.Needs.{needs}
 use Rattle.outside.proofs.refuse.Statement.{statement}
 use Rattle.outside.proofs.refuse.Tie as tie

@@ -1,5 +1,5 @@
 -- `shortest` meets its contract: the lower of the third and of the lower of the first two. Assumes nothing.
-use mathlib.Core.Path.{_≡_, ap, _∙_}
+use mathlib.Core.Path.{ap, _∙_}
 use Prim.Native.Nat.{ℕ}
 use borrow.Author.Needs.{needs}
 use Rattle.outside.specs.Outside.{lower}

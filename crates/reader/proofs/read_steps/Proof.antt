@@ -14,26 +14,23 @@ use Rattle.reader.proofs.read_steps.Statement.{statement}
 use Rattle.reader.proofs.read_steps.Tie as tie
 
 abbrev Inv-loop : tie.InvT-loop
-Inv-loop text from first out₀ n a₀ k₀ count₀ t11 out a k count =
+Inv-loop text from first out₀ n a₀ k₀ count₀ out a k count =
     (n ≡ length text) × ((a ≤ length text) × ((k ≤ a + 1) × ((count ≤ a) × ((length out ≡ length out₀) × Left text from first out₀ out a k count))))
 
 abbrev μ-loop : tie.MeasureT-loop
-μ-loop text from first out₀ n a₀ k₀ count₀ t11 out a k count = length text - a
+μ-loop text from first out₀ n a₀ k₀ count₀ out a k count = length text - a
 
 -- the line, once its answer is taken apart
-read : (s : tie.After-read-line Inv-loop μ-loop) (r : Pair) → s .read-line .result ≡ r → LineSays stepWord (s .before .before .before .before .before .before .args .text .now) (s .before .before .before .loop .a) r
-read s r q = subst (LineSays stepWord (s .before .before .before .before .before .before .args .text .now) (s .before .before .before .loop .a)) q (s .read-line .ensures)
+read : (s : tie.After-read-step Inv-loop μ-loop) (r : Pair) → s .read-step .result ≡ r → LineSays stepWord (s .before .before .before .before .before .args .text .now) (s .before .before .loop .a) r
+read s r q = subst (LineSays stepWord (s .before .before .before .before .before .args .text .now) (s .before .before .loop .a)) q (s .read-step .ensures)
 
 loop-holds : tie.Need-loop-holds Inv-loop μ-loop
 loop-holds c =
     let a = c .before .before .args in
     (refl, (omega arith, (omega arith, (omega arith, (refl, left-start (a .text .now) (a .from) (a .first) (a .out .now))))))
 
-slice-aggregate-read-line : tie.Need-slice-aggregate-read-line Inv-loop μ-loop
-slice-aggregate-read-line c = refl
-
-read-line-requires : tie.Need-read-line-requires Inv-loop μ-loop
-read-line-requires c κs = (omega arith, (refl, (refl, (refl, (refl, tt)))))
+read-step-requires : tie.Need-read-step-requires Inv-loop μ-loop
+read-step-requires c κs = omega arith
 
 enum-known-t : tie.Need-enum-known-t Inv-loop μ-loop
 enum-known-t c = search needs
@@ -42,12 +39,12 @@ enum-told : tie.Need-enum-told Inv-loop μ-loop
 enum-told c = search needs
 
 same-length : tie.Need-same-length Inv-loop μ-loop
-same-length c = c .before .before .before .before .before .loop .inv .1 .1 .1 .1 .0
+same-length c = c .before .before .before .before .loop .inv .1 .1 .1 .1 .0
 
 returns : tie.Need-returns Inv-loop μ-loop
 returns c =
-    let h = c .before .before .before .before .before .loop in
-    let a = c .before .before .before .before .before .before .before .before .args in
+    let h = c .before .before .before .before .loop in
+    let a = c .before .before .before .before .before .before .before .args in
     left-bad (a .text .now) (a .from) (a .first) (a .out .now) (h .out) (h .a) (h .k) (h .count) (h .inv .1 .1 .1 .1 .1) (omega arith) (read (c .before .before) P.Bad (c .enum-told .given .1))
 
 put-at-requires : tie.Need-put-at-requires Inv-loop μ-loop
@@ -67,8 +64,8 @@ loop-less c =
 
 loop-again : tie.Need-loop-again Inv-loop μ-loop
 loop-again c =
-    let h = c .before .before .before .before .before .before .before .before .before .before .loop in
-    let a = c .before .before .before .before .before .before .before .before .before .before .before .before .before .args in
+    let h = c .before .before .before .before .before .before .before .before .before .loop in
+    let a = c .before .before .before .before .before .before .before .before .before .before .before .before .args in
     let p = c .before .before .put-at in
     let g = c .before .before .before .before .before .t .given in
     let w = read (c .before .before .before .before .before .before .before) (P.Is (g .0 .0) (g .0 .1 .0)) (g .1) in
@@ -105,8 +102,7 @@ read-steps-spec =
     Inv-loop
     μ-loop
     loop-holds
-    slice-aggregate-read-line
-    read-line-requires
+    read-step-requires
     enum-known-t
     enum-told
     same-length

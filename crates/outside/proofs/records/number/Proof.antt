@@ -1,5 +1,5 @@
 -- `number` meets its contract: each arm is the clause of `phaseNumber`, and a slot is far below 2 ^ 31. Assumes nothing.
-use mathlib.Core.Path.{_≡_, refl, sym, ap, _∙_}
+use mathlib.Core.Path.{sym, ap, _∙_}
 use Prim.Native.Nat.{_<_, _^_}
 use lib.IntN.{pos}
 use lib.Signed.{mag}
@@ -8,70 +8,52 @@ use Rattle.run.proofs.FinalLaws.{back32}
 use borrow.Author.Needs.{needs}
 use Rattle.outside.proofs.records.number.Statement.{statement}
 use Rattle.outside.proofs.records.number.Tie as tie
-use Rattle.outside.proofs.records.number.Reads as reads
-use Rattle.outside.proofs.records.number.Lts as lts
 
--- src/records.rt:32:24
 enum-told : tie.Need-enum-told
 enum-told c = search needs
 
--- src/records.rt:33:29
 enum-told-2 : tie.Need-enum-told-2
 enum-told-2 c = search needs
 
--- src/records.rt:34:25
 enum-known-p : tie.Need-enum-known-p
 enum-known-p c = search needs
 
--- src/records.rt:34:34
 cast-result : tie.Need-cast-result
 cast-result c = search needs
 
--- src/records.rt:35:26
 enum-told-3 : tie.Need-enum-told-3
 enum-told-3 c = search needs
 
--- src/records.rt:36:30
 enum-told-4 : tie.Need-enum-told-4
 enum-told-4 c = search needs
 
--- src/records.rt:37:25
 enum-known-p-2 : tie.Need-enum-known-p-2
 enum-known-p-2 c = search needs
 
--- src/records.rt:37:37
 cast-result-2 : tie.Need-cast-result-2
 cast-result-2 c = search needs
 
--- src/records.rt:38:24
 enum-known-p-3 : tie.Need-enum-known-p-3
 enum-known-p-3 c = search needs
 
--- src/records.rt:28:1
 returns : tie.Need-returns
 returns c = ap phaseNumber (sym (c .enum-told .given .1))
 
--- src/records.rt:28:1
 returns-2 : tie.Need-returns-2
 returns-2 c = ap phaseNumber (sym (c .enum-told2 .given .1))
 
--- src/records.rt:28:1
 returns-3 : tie.Need-returns-3
 returns-3 c = back32 (pos (c .before .p .given .0 .0)) (search needs) ∙ ap phaseNumber (sym (c .before .p .given .1))
 
--- src/records.rt:28:1
 returns-4 : tie.Need-returns-4
 returns-4 c = ap phaseNumber (sym (c .enum-told3 .given .1))
 
--- src/records.rt:28:1
 returns-5 : tie.Need-returns-5
 returns-5 c = ap phaseNumber (sym (c .enum-told4 .given .1))
 
--- src/records.rt:28:1
 returns-6 : tie.Need-returns-6
 returns-6 c = back32 (pos (c .before .p2 .given .0 .0)) (search needs) ∙ ap phaseNumber (sym (c .before .p2 .given .1))
 
--- src/records.rt:28:1
 returns-7 : tie.Need-returns-7
 returns-7 c =
     let x = c .before .p3 .given .0 .0 in
