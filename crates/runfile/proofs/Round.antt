@@ -32,7 +32,7 @@ use Rattle.runfile.proofs.InputLaws.{Passed, GoodOps, GoodSteps, passed
 use Rattle.runfile.proofs.TextLaws.{fit-thread, AllFit}
 
 -- ---- reading what was written: one line
-pair-line : (w : List ℕ) → Free 9 w → (n : ℕ) → n ≤ 255 → numberAfter w (parts 9 (pairLine w n)) ≡ N.Is n
+pub pair-line : (w : List ℕ) → Free 9 w → (n : ℕ) → n ≤ 255 → numberAfter w (parts 9 (pairLine w n)) ≡ N.Is n
 pair-line w free n h = number-after w free (decimal n) ∙ number-round n h
 
 free-pair : (w : List ℕ) → Free 10 w → (n : ℕ) → Free 10 (pairLine w n)
@@ -89,7 +89,7 @@ free-op t k x = go (eqb k 1)
     go false = free-pair takeWord (refl, (refl, (refl, (refl, tt)))) t
 
 -- ---- reading what was written: line by line
-step-first : (t : ℕ) (rest : List ℕ) → parts 10 (ended (pairLine stepWord t) rest) ≡ pairLine stepWord t ∷ parts 10 rest
+pub step-first : (t : ℕ) (rest : List ℕ) → parts 10 (ended (pairLine stepWord t) rest) ≡ pairLine stepWord t ∷ parts 10 rest
 step-first t rest = parts-append 10 (pairLine stepWord t) rest (free-pair stepWord (refl, (refl, (refl, (refl, tt)))) t)
 
 steps-round : (threads : ℕ) → threads ≤ 256 → (k : ℕ) (ss : List ℕ) → GoodSteps threads ss → stepsFrom k (parts 10 (stepsText ss)) ≡ file 0 0 [] [] [] ss

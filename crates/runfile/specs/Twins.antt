@@ -14,4 +14,3 @@ until x (c ∷ s) = cond (eqb c x) 0 (suc (until x s))
 abbrev pub Free : ℕ → List ℕ → Type 0
 Free x [] = Unit {0}
 Free x (c ∷ s) = (eqb c x ≡ false) × Free x s
-
