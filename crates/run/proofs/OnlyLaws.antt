@@ -27,4 +27,5 @@ module _ (threads slots : ℕ) (thread kind : List ℕ) (sample : List ℤ) (sch
     samples = (a .samples ∙ sym (b .samples)) i;
     order = (a .order ∙ sym (b .order)) i;
     marks = (a .marks ∙ sym (b .marks)) i;
-    held = (a .held ∙ sym (b .held)) i }
+    held = (a .held ∙ sym (b .held)) i;
+  }

@@ -46,19 +46,20 @@ resultOf threads slots thread kind sample schedule =
     let S = start T threads slots in
     let B = played T S schedule in
     record {
-    fit = inputRefusal threads slots thread kind sample schedule;
-    back = back B;
-    codes = codes B;
-    samples = samples B;
-    order = order B;
-    slots = B .slots;
-    phases = phasesIn (B .workers);
-    steps = length schedule;
-    idle = over idleStep T S schedule;
-    stores = over storeStep T S schedule;
-    swaps = over swapStep T S schedule;
-    finds = over findStep T S schedule;
-    fruitless = over fruitlessStep T S schedule }
+      fit = inputRefusal threads slots thread kind sample schedule;
+      back = back B;
+      codes = codes B;
+      samples = samples B;
+      order = order B;
+      slots = B .slots;
+      phases = phasesIn (B .workers);
+      steps = length schedule;
+      idle = over idleStep T S schedule;
+      stores = over storeStep T S schedule;
+      swaps = over swapStep T S schedule;
+      finds = over findStep T S schedule;
+      fruitless = over fruitlessStep T S schedule;
+    }
 
 -- runs A and B: two puts, threads 0 and 1, and a take, thread 2
 abbrev pub twoPuts : ℤ → ℤ → List ℕ → Result
@@ -86,7 +87,8 @@ pub record Worked : Type 0 where
     order = 1 ∷ 2 ∷ 0 ∷ [];
     slots = Filled (pos 100) ∷ Empty ∷ [];
     phases = Rest ∷ Rest ∷ Rest ∷ [];
-    steps = 13; idle = 0;
+    steps = 13;
+    idle = 0;
     stores = 2;
     swaps = 2;
     finds = 1;
@@ -100,7 +102,8 @@ pub record Worked : Type 0 where
     order = 1 ∷ 2 ∷ 0 ∷ [];
     slots = Filled (pos 5) ∷ Empty ∷ [];
     phases = Stored ∷ Stored ∷ Rest ∷ [];
-    steps = 11; idle = 0;
+    steps = 11;
+    idle = 0;
     stores = 2;
     swaps = 2;
     finds = 1;
@@ -116,7 +119,8 @@ pub record Worked : Type 0 where
     order = 0 ∷ 1 ∷ [];
     slots = Empty ∷ [];
     phases = Rest ∷ [];
-    steps = 8; idle = 0;
+    steps = 8;
+    idle = 0;
     stores = 1;
     swaps = 1;
     finds = 1;
@@ -130,7 +134,8 @@ pub record Worked : Type 0 where
     order = 0 ∷ 1 ∷ [];
     slots = Empty ∷ [];
     phases = Holding (pos 7) ∷ [];
-    steps = 7; idle = 0;
+    steps = 7;
+    idle = 0;
     stores = 1;
     swaps = 1;
     finds = 1;

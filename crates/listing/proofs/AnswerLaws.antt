@@ -1,0 +1,45 @@
+-- The answer where a text is written into a lent one, and where it does not fit. Assumes nothing.
+use mathlib.Core.Path.{_≡_, refl, sym, ap, _∙_}
+use mathlib.Core.Bool.{true, false}
+use mathlib.Core.List.{List, [], _∷_, _++_}
+use Prim.Native.Nat.{ℕ, _≤_, _<_}
+use native.Mathlib.Omega.{arith}
+use borrow.Author.Tests.{le-leb, lt-leb}
+use lib.Dec.{leb}
+use lib.ListN.{length, length-append}
+use Rattle.limits.specs.declared.Refusal.{Refusal}
+use Rattle.limits.specs.declared.Refusal.the-variants.{Room}
+use Rattle.limits.specs.Refusals.{refusalNumber, refusalDetail}
+use Rattle.order.proofs.StoreLaws.{sets-front}
+use Rattle.numerals.specs.Decimal.{decimal}
+use Rattle.numerals.specs.Places.{after, Put}
+use Rattle.numerals.proofs.PrintLaws.{decimal-short}
+use Rattle.listing.specs.declared.Listing.the-variants.{Bytes, Refused}
+use Rattle.listing.specs.Lines.{refusedLine}
+use Rattle.listing.specs.declared.Listing.{Listing}
+use Rattle.listing.specs.Listing.{RefusalSays}
+use Rattle.listing.specs.Twins.{TextSays}
+
+-- a text that was put from 0 on, in a list long enough for it, stands there whole, and what stood after it still stands
+pub text-fits : {w text new : List ℕ} {n : ℕ} → length w ≤ length text → length text ≤ 18446744073709551615 → Put text 0 w n new → TextSays w text (Bytes n) new
+text-fits {w} {text} {new} {n} fits small p =
+    let e : n ≡ length w = omega (arith, p .place) in
+    let b : leb (length w) (length text) ≡ true = le-leb (length w) (length text) fits in
+    record { answer = rw (b, e); bytes = rw b (p .text ∙ sets-front text w (length w) refl fits) }
+
+-- where it does not fit, nothing is written
+pub text-short : {w text : List ℕ} → length text < length w → TextSays w text (Refused Room) text
+text-short {w} {text} short =
+    let b : leb (length w) (length text) ≡ false = lt-leb (length w) (length text) short in
+    record { answer = rw b; bytes = rw b }
+
+-- the line of a refusal whose detail fits 64 bits is a short one
+pub refused-short : (r : Refusal) → refusalNumber r ≤ 255 → refusalDetail r ≤ 18446744073709551615 → length (refusedLine r) ≤ 64
+unfolding refusedLine
+refused-short r small fits =
+    let n = decimal (refusalNumber r) in
+    let d = decimal (refusalDetail r) in
+    omega (arith, length-append n (9 ∷ (d ++ (10 ∷ []))), length-append d (10 ∷ []), decimal-short 2 (refusalNumber r) (omega arith), decimal-short 19 (refusalDetail r) (omega arith))
+
+pub refusal-says : {r : Refusal} {text new : List ℕ} {n : Listing} → TextSays (refusedLine r) text n new → length (refusedLine r) ≤ 64 → RefusalSays r text n new
+refusal-says t short = record { answer = t .answer; bytes = t .bytes; short = short }
