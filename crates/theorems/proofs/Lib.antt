@@ -1,5 +1,6 @@
 pub mod OrderLaws
 pub mod JudgedLaws
 pub mod WorkedLaws
+pub mod TextClaims
 pub mod ClaimLaws
 pub mod Claims
