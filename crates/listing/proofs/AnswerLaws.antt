@@ -1,5 +1,5 @@
 -- The answer where a text is written into a lent one, and where it does not fit. Assumes nothing.
-use mathlib.Core.Path.{_≡_, refl, sym, ap, _∙_}
+use mathlib.Core.Path.{_≡_, refl, _∙_}
 use mathlib.Core.Bool.{true, false}
 use mathlib.Core.List.{List, [], _∷_, _++_}
 use Prim.Native.Nat.{ℕ, _≤_, _<_}
@@ -12,7 +12,7 @@ use Rattle.limits.specs.declared.Refusal.the-variants.{Room}
 use Rattle.limits.specs.Refusals.{refusalNumber, refusalDetail}
 use Rattle.order.proofs.StoreLaws.{sets-front}
 use Rattle.numerals.specs.Decimal.{decimal}
-use Rattle.numerals.specs.Places.{after, Put}
+use Rattle.numerals.specs.Places.{Put}
 use Rattle.numerals.proofs.PrintLaws.{decimal-short}
 use Rattle.listing.specs.declared.Listing.the-variants.{Bytes, Refused}
 use Rattle.listing.specs.Lines.{refusedLine}

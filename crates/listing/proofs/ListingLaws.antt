@@ -2,16 +2,13 @@
 use mathlib.Core.Path.{_≡_, refl, sym, ap, _∙_}
 use mathlib.Core.Bool.{cond}
 use mathlib.Core.List.{List, [], _∷_, _++_, map, append-assoc, append-nil}
-use mathlib.Core.Option.{Option}
-use Prim.Native.Nat.{ℕ, zero, suc, _+_, _*_, _/_, _%_, _≤_, _<_}
+use Prim.Native.Nat.{ℕ, zero, suc, _+_, _*_, _/_, _<_}
 use native.Mathlib.Nat.{zero-add, add-zero, add-suc, suc-add}
 use native.Mathlib.Omega.{arith}
-use borrow.Author.Tests.{eq-eqb, ne-eqb}
 use lib.Dec.{eqb}
 use lib.IntN.{ℤ, pos}
 use lib.ListN.{length, getD, drop, replicate, length-map, List·getD-map, List·getD-append}
-use Rattle.limits.specs.Lists.{All}
-use Rattle.limits.specs.Operations.{Kind, Table, tableOf}
+use Rattle.limits.specs.Operations.{Table, tableOf}
 use Rattle.limits.specs.declared.Fit.the-variants.{Pass}
 use Rattle.limits.specs.Refusals.{inputRefusal}
 use Rattle.limits.proofs.PassLaws.{Passed, input-passed}
@@ -20,7 +17,7 @@ use Rattle.history.proofs.HistoryLaws.{Right}
 use Rattle.history.proofs.CodeLaws.{event-call, event-ret}
 use Rattle.history.proofs.PrecedenceLists.{all-of-getD, all-getD}
 use Rattle.machine.specs.declared.ThreadRecord.{ThreadRecord}
-use Rattle.machine.specs.Bench.{Bench, Slot, Empty, Filled, Worker, idler}
+use Rattle.machine.specs.Bench.{Bench, Slot, Empty, Filled, idler}
 use Rattle.machine.specs.Shown.{codes, samples, order, mark, held, recordOf, records}
 use Rattle.machine.proofs.RunLaws.{Run, run-played, puts-fit, workers-length, slots-length, history-right}
 use Rattle.run.specs.Run.{benchAfter, summaryOf, restRecord, recordsAfter}

@@ -1,11 +1,10 @@
 -- From what a run says to what its listing says: the lists lent to the run are long enough, so that its refusals are those of the input. Assumes nothing.
 use mathlib.Core.Path.{_≡_, refl, sym, ap, _∙_, subst}
-use mathlib.Core.Bool.{Bool, true, false, _&&_}
-use mathlib.Core.List.{List, [], _∷_, _++_, map}
-use Prim.Native.Nat.{ℕ, _+_, _*_, _≤_, _<_}
+use mathlib.Core.Bool.{true}
+use mathlib.Core.List.{List, _++_, map}
+use Prim.Native.Nat.{ℕ, _+_, _*_, _≤_}
 use native.Mathlib.Omega.{arith}
 use borrow.Author.Tests.{le-leb}
-use lib.Dec.{leb}
 use lib.IntN.{ℤ}
 use lib.ListN.{length, drop, length-append, length-map}
 use Rattle.limits.specs.declared.Refusal.{Refusal}
@@ -16,12 +15,10 @@ use Rattle.limits.specs.Refusals.{inputRefusal, andThen, unless}
 use Rattle.limits.proofs.PassLaws.{Passed, input-passed}
 use Rattle.history.proofs.ListLaws.{clash}
 use Rattle.history.specs.History.{codeOf}
-use Rattle.machine.specs.declared.ThreadRecord.{ThreadRecord}
 use Rattle.machine.specs.Bench.{Bench}
 use Rattle.machine.specs.Shown.{codes, samples, order, mark, held}
 use Rattle.run.specs.declared.Summary.{Summary}
 use Rattle.run.specs.declared.Final.{Final}
-use Rattle.run.specs.declared.Outcome.{Outcome}
 use Rattle.run.specs.declared.Outcome.the-variants.{Ran, Refused}
 use Rattle.run.specs.Run.{Room, roomOf, hasRoom, runFit, benchAfter, summaryOf, answerOf, recordsAfter, RunSays}
 use Rattle.listing.specs.declared.Listing.{Listing}

@@ -3,7 +3,7 @@ use mathlib.Core.Path.{_≡_, refl}
 use mathlib.Core.List.{List, [], _∷_}
 use Prim.Native.Nat.{ℕ}
 use native.Mathlib.Decide.{ℕ-discrete}
-use lib.IntN.{ℤ, pos}
+use lib.IntN.{pos}
 use Rattle.numerals.specs.Decimal.{decimal}
 use Rattle.numerals.specs.Samples.{sampleText}
 use Rattle.machine.specs.Bench.{step, ownFrom, resting, start, played}

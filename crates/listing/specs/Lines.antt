@@ -1,9 +1,13 @@
 -- The lines of a listing, from a run's result (document 01, 'Runs worked by hand', the listing of run A and what follows it). Assumes nothing.
 --   line fs             the fields fs, parted by one tab (byte 9) and ended by a line feed (byte 10)
 --   linesFrom f i l     a line for each entry of l, the entries numbered from i on
---   eventLine           kind and operation, and a sample where a take returns; a put's return has none
---   slotLine            the slot's number, and its sample or `empty`
---   threadLine          the thread's number, its phase word and, for phases 2, 5 and 6, the number the phase shows: slot, next slot (not b), sample
+--   answerFields        what a return shows after its operation: a take's sample, and nothing of a put
+--   eventLine           kind and operation of an event, and a sample where a take returns
+--   orderLine           an operation of the listed order
+--   slotField, slotLine a slot's sample or `empty`; its number before that
+--   phaseFields         the phase's word and, for phases 2, 5 and 6, the number the phase shows: slot, next slot (not b), sample
+--   threadLine          a thread's number before that
+--   countLine           a count's name and number
 --   listingOf           the whole listing of a summary and a bench: back, events, order, slots, threads, counts
 --   refusedLine         the one line that refused input gets: number and detail
 use mathlib.Core.List.{List, [], _∷_, _++_}
@@ -32,7 +36,7 @@ module _ {A : Type 0} where
   linesFrom f i [] = []
   linesFrom f i (x ∷ l) = f i x ++ linesFrom f (suc i) l
 
--- what a return has after its operation
+-- a put's return has none
 abbrev pub answerFields : Option ℤ → List (List ℕ)
 answerFields none = []
 answerFields (some x) = sampleText x ∷ []

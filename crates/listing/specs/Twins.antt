@@ -20,7 +20,7 @@ use Rattle.limits.specs.Operations.{kindOf, tableOf}
 use Rattle.history.specs.History.{ret, answer, eventOf}
 use Rattle.machine.specs.declared.Phase.{Phase}
 use Rattle.machine.specs.declared.ThreadRecord.{ThreadRecord}
-use Rattle.machine.specs.Bench.{Slot, Empty, Filled}
+use Rattle.machine.specs.Bench.{Empty, Filled}
 use Rattle.run.specs.declared.Summary.{Summary}
 use Rattle.run.specs.Run.{lentAfter, restRecord}
 use Rattle.numerals.specs.Decimal.{decimal}

@@ -1,14 +1,13 @@
 -- `listing::lines::put_events` meets its contract. The invariant: the lines of the first i events stand from at on. Assumes nothing.
-use mathlib.Core.Path.{_≡_, refl, subst, _∙_, ap}
-use Prim.Native.Nat.{ℕ, _≤_, _-_, _*_}
+use mathlib.Core.Path.{ap}
+use Prim.Native.Nat.{_-_}
 use native.Mathlib.Omega.{arith}
 use borrow.Author.Needs.{needs}
-use lib.ListN.{length, getD}
-use Rattle.numerals.specs.Places.{Put}
+use lib.ListN.{getD}
 use Rattle.numerals.proofs.PrintLaws.{put-as}
-use Rattle.listing.specs.Twins.{upto, eventBy, eventAt}
+use Rattle.listing.specs.Twins.{eventBy, eventAt}
 use Rattle.listing.proofs.PutLaws.{Printed, printed-first, printed-next, printed-all, turn-less}
-use lib.IntN.{ℤ, pos}
+use lib.IntN.{pos}
 use Rattle.limits.proofs.LimitsLaws.{back32}
 use Rattle.listing.proofs.LengthLaws.{event-low}
 use Rattle.listing.proofs.lines.put_events.Statement.{statement}

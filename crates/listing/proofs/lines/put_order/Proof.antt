@@ -1,12 +1,11 @@
 -- `listing::lines::put_order` meets its contract. The invariant: the lines of the first i entries stand from at on. Assumes nothing.
-use mathlib.Core.Path.{_≡_, refl, subst, _∙_, ap}
-use Prim.Native.Nat.{ℕ, _≤_, _-_, _*_}
+use mathlib.Core.Path.{_∙_}
+use Prim.Native.Nat.{_-_}
 use native.Mathlib.Omega.{arith}
 use borrow.Author.Needs.{needs}
-use lib.ListN.{length, getD}
-use Rattle.numerals.specs.Places.{Put}
-use Rattle.numerals.proofs.PrintLaws.{put-then, put-as}
-use Rattle.listing.specs.Twins.{upto, orderAt}
+use lib.ListN.{getD}
+use Rattle.numerals.proofs.PrintLaws.{put-then}
+use Rattle.listing.specs.Twins.{orderAt}
 use Rattle.listing.proofs.PutLaws.{Printed, printed-first, printed-next, printed-all, turn-less}
 use Rattle.listing.proofs.LengthLaws.{order-low}
 use Rattle.listing.proofs.lines.put_order.Statement.{statement}

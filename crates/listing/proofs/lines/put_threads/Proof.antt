@@ -1,12 +1,8 @@
 -- `listing::lines::put_threads` meets its contract. The invariant: the lines of the first i threads stand from at on. Assumes nothing.
-use mathlib.Core.Path.{_≡_, refl, subst, _∙_, ap}
-use Prim.Native.Nat.{ℕ, _≤_, _-_, _*_}
+use Prim.Native.Nat.{_-_}
 use native.Mathlib.Omega.{arith}
 use borrow.Author.Needs.{needs}
-use lib.ListN.{length}
-use Rattle.numerals.specs.Places.{Put}
-use Rattle.numerals.proofs.PrintLaws.{put-as}
-use Rattle.listing.specs.Twins.{upto, threadAt}
+use Rattle.listing.specs.Twins.{threadAt}
 use Rattle.listing.proofs.PutLaws.{Printed, printed-first, printed-next, printed-all, turn-less}
 use Rattle.listing.proofs.lines.put_threads.Statement.{statement}
 use Rattle.listing.proofs.lines.put_threads.Tie as tie
