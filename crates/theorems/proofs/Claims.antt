@@ -1,120 +1,98 @@
--- The claims, in one place: demands 1, 2 and 3, each a statement about what a public function answers and writes. Assumes nothing.
--- Beside each contract stands that two results which meet it are the same: `run-only` (records), `judged-only` (judge), `read-only` and `write-only` (runfile).
--- Every public function is total and has no `requires`: what it says of every input is its contract (`RecordsSay`, `RunSays`, `judged`, `ReadSays`, `WriteSays`).
---   refused-leaves-all    demand 1: a refused run writes nothing into memory that was lent
---   run-exact             demand 2: slots, phases, counts and history are those of the document's steps
---   runs-balance          stores = finds + filled slots
---   order-of-a-run        demand 3, of the order that the run wrote
---   judge-passes-runs     the judge's verdict on what a run wrote is 0
---   accepted-exactly      demand 2: an order is accepted exactly if it is a linearization
---   same-bytes, same-lists   demand 2: run files read and write back
---   worked-runs           the table of document 01, A to I
-use mathlib.Core.Path.{_≡_, sym, ap, _∙_}
-use mathlib.Core.List.{List, map}
+-- The claims, in one place: demands 1, 2 and 3, sentence by sentence, each about what a public function answers and writes. Assumes nothing.
+-- Every public function is total and asks nothing of its caller: what it says of every input is its contract. `Runs` is that of `records::run`,
+-- `judged` that of `judge::judge`, `ReadSays` that of `reader::read_run`, `WriteSays` that of `writer::write_run`.
+--   what-fits, what-does-not   demand 1: a run ends in its result or in the refusal that its input gets
+--   refused-leaves-all         demand 1: a refused run writes nothing into memory that was lent; likewise `refused-read`, `refused-write`
+--   run-exact                  demand 2: slots, phases, counts and history are those of the document's steps
+--   runs-balance               stores = finds + filled slots
+--   accepted-exactly           demand 2: an order is accepted exactly if it is a linearization
+--   same-bytes, same-lists     demand 2: run files read and write back
+--   order-of-a-run             demand 3, of what the run wrote
+--   judge-passes-runs          the judge's verdict on what a run wrote is 0
+--   run-one, judge-one, read-one, write-one   two results that meet a contract are the same
+--   worked-runs                the table of document 01, A to I
+use mathlib.Core.Path.{_≡_, sym, _∙_}
+use mathlib.Core.List.{List}
 use Prim.Native.Nat.{ℕ, _+_, _≤_}
 use lib.IntN.{ℤ}
 use lib.ListN.{length, take}
 use Rattle.limits.specs.declared.Refusal.{Refusal}
-use Rattle.limits.specs.declared.Fit.the-variants.{Pass}
-use Rattle.limits.specs.Operations.{Table, tableOf}
+use Rattle.limits.specs.declared.Fit.the-variants.{Pass, Refused as Unfit}
+use Rattle.limits.specs.Operations.{tableOf}
 use Rattle.history.specs.History.{events}
 use Rattle.linear.specs.declared.Verdict.the-variants.{Linear}
 use Rattle.linear.specs.Linear.{Linearizes}
+use Rattle.judge.specs.declared.Judged.{Judged}
 use Rattle.judge.specs.declared.Judged.the-variants.{Says}
 use Rattle.judge.specs.Judge.{judgeRefusal, judged}
 use Rattle.judge.proofs.JudgedLaws.{verdict-sound, verdict-complete}
-use Rattle.machine.specs.declared.ThreadRecord.{ThreadRecord}
-use Rattle.machine.specs.Bench.{Bench}
-use Rattle.machine.specs.Shown.{codes, samples, order, mark, held, records, filled}
+use Rattle.machine.specs.Shown.{filled}
 use Rattle.run.specs.declared.Summary.{Summary}
 use Rattle.run.specs.declared.Outcome.{Outcome}
 use Rattle.run.specs.declared.Outcome.the-variants.{Ran, Refused}
-use Rattle.run.specs.Run.{benchAfter, summaryOf, lentAfter}
-use Rattle.records.specs.Records.{RecordsSay}
 use Rattle.runfile.specs.declared.Read.{Read}
-use Rattle.runfile.specs.declared.Read.the-variants.{Run}
+use Rattle.runfile.specs.declared.Read.the-variants.{Run, Refused as Unread}
 use Rattle.runfile.specs.declared.Written.{Written}
-use Rattle.runfile.specs.declared.Written.the-variants.{Bytes}
+use Rattle.runfile.specs.declared.Written.the-variants.{Bytes, Refused as Unwritten}
 use Rattle.runfile.specs.Answers.{over, ReadSays, WriteSays}
 use Rattle.runfile.specs.RunText.{Fitting}
-use Rattle.runfile.proofs.RunFiles.{read-write, write-read}
+use Rattle.runfile.proofs.RunFiles as file
 use Rattle.theorems.specs.Demand.{Linearized}
+use Rattle.theorems.specs.Calls.{Input, Lists, Runs, fit, table, bench, summary, shown, history}
 use Rattle.theorems.specs.Worked.{Worked}
 use Rattle.theorems.proofs.WorkedLaws.{worked}
 use Rattle.theorems.proofs.ClaimLaws as law
 
--- what an accepted run answers and writes
-pub record Exact (threads slots : ℕ) (thread kind : List ℕ) (sample : List ℤ) (schedule : List ℕ) (cs : List ℕ) (vs : List ℤ) (os ms : List ℕ) (hs : List ℤ) (rs : List ThreadRecord)
-    (cs′ : List ℕ) (vs′ : List ℤ) (os′ ms′ : List ℕ) (hs′ : List ℤ) (rs′ : List ThreadRecord) (s : Summary) : Type 0 where
-  pub summary : s ≡ summaryOf threads slots thread kind sample schedule
-  pub codes : cs′ ≡ lentAfter Pass (codes (benchAfter threads slots thread kind sample schedule)) cs
-  pub samples : vs′ ≡ lentAfter Pass (samples (benchAfter threads slots thread kind sample schedule)) vs
-  pub order : os′ ≡ lentAfter Pass (order (benchAfter threads slots thread kind sample schedule)) os
-  pub marks : ms′ ≡ lentAfter Pass (map mark (benchAfter threads slots thread kind sample schedule .slots)) ms
-  pub held : hs′ ≡ lentAfter Pass (map held (benchAfter threads slots thread kind sample schedule .slots)) hs
-  pub records : rs′ ≡ lentAfter Pass (records (benchAfter threads slots thread kind sample schedule)) rs
+-- ---- runs: `records::run`, called with input i and lists l, answered r and left the lists m
 
--- ---- runs: whatever `records::run` answers and leaves in the six lent lists
+module _ (i : Input) (l m : Lists) (r : Outcome) (says : Runs i l m r) where
+  -- 'Every table, schedule .. ends in a result or a numbered refusal': a result where nothing is to be refused, and the refusal where something is
+  pub what-fits : fit i l ≡ Pass → r ≡ Ran (summary i)
+  what-fits e = law.answers-pass i l m r says e
 
-module _ (threads slots : ℕ) (thread kind : List ℕ) (sample : List ℤ) (schedule : List ℕ)
-    (cs : List ℕ) (vs : List ℤ) (os ms : List ℕ) (hs : List ℤ) (rs : List ThreadRecord)
-    (cs′ : List ℕ) (vs′ : List ℤ) (os′ ms′ : List ℕ) (hs′ : List ℤ) (rs′ : List ThreadRecord) (r : Outcome)
-    (says : RecordsSay threads slots thread kind sample schedule cs vs os ms hs rs cs′ vs′ os′ ms′ hs′ rs′ r) where
+  pub what-does-not : (x : Refusal) → fit i l ≡ Unfit x → r ≡ Refused x
+  what-does-not x e = law.answers-unfit i l m r says x e
+
   -- 'A refused call writes nothing into memory that was lent'
-  pub refused-leaves-all : (x : Refusal) → r ≡ Refused x → (cs′ ≡ cs) × ((vs′ ≡ vs) × ((os′ ≡ os) × ((ms′ ≡ ms) × ((hs′ ≡ hs) × (rs′ ≡ rs)))))
-  refused-leaves-all x e = (
-    law.left-codes threads slots thread kind sample schedule cs vs os ms hs rs cs′ vs′ os′ ms′ hs′ rs′ r says x e,
-    (
-      law.left-samples threads slots thread kind sample schedule cs vs os ms hs rs cs′ vs′ os′ ms′ hs′ rs′ r says x e,
-      (
-        law.left-order threads slots thread kind sample schedule cs vs os ms hs rs cs′ vs′ os′ ms′ hs′ rs′ r says x e,
-        (
-          law.left-marks threads slots thread kind sample schedule cs vs os ms hs rs cs′ vs′ os′ ms′ hs′ rs′ r says x e,
-          (
-            law.left-held threads slots thread kind sample schedule cs vs os ms hs rs cs′ vs′ os′ ms′ hs′ rs′ r says x e,
-            law.left-records threads slots thread kind sample schedule cs vs os ms hs rs cs′ vs′ os′ ms′ hs′ rs′ r says x e,
-          ),
-        ),
-      ),
-    ),
-  )
+  pub refused-leaves-all : (x : Refusal) → r ≡ Refused x → m ≡ l
+  refused-leaves-all x e = law.left-all i l m r says x e
 
   -- 'Final slots, thread phases, counts and history are exactly those of the Herlihy-Wing steps of document 01'
-  pub run-exact : (s : Summary) → r ≡ Ran s → Exact threads slots thread kind sample schedule cs vs os ms hs rs cs′ vs′ os′ ms′ hs′ rs′ s
-  run-exact s e = record {
-    summary = law.ran-summary threads slots thread kind sample schedule cs vs os ms hs rs cs′ vs′ os′ ms′ hs′ rs′ r says s e;
-    codes = rw (law.pass threads slots thread kind sample schedule cs vs os ms hs rs cs′ vs′ os′ ms′ hs′ rs′ r says s e) at (says .codes);
-    samples = rw (law.pass threads slots thread kind sample schedule cs vs os ms hs rs cs′ vs′ os′ ms′ hs′ rs′ r says s e) at (says .samples);
-    order = rw (law.pass threads slots thread kind sample schedule cs vs os ms hs rs cs′ vs′ os′ ms′ hs′ rs′ r says s e) at (says .order);
-    marks = rw (law.pass threads slots thread kind sample schedule cs vs os ms hs rs cs′ vs′ os′ ms′ hs′ rs′ r says s e) at (says .marks);
-    held = rw (law.pass threads slots thread kind sample schedule cs vs os ms hs rs cs′ vs′ os′ ms′ hs′ rs′ r says s e) at (says .held);
-    records = rw (law.pass threads slots thread kind sample schedule cs vs os ms hs rs cs′ vs′ os′ ms′ hs′ rs′ r says s e) at (says .records);
-  }
+  pub run-exact : (s : Summary) → r ≡ Ran s → (s ≡ summary i) × (m ≡ shown (bench i) l)
+  run-exact s e = (law.ran-summary i l m r says s e, law.ran-lists i l m r says s e)
 
   -- 'Stores = finds + filled slots at the end, always'
-  pub runs-balance : (s : Summary) → r ≡ Ran s → s .stores ≡ s .finds + filled (benchAfter threads slots thread kind sample schedule .slots)
-  runs-balance s e = law.ran-balance threads slots thread kind sample schedule cs vs os ms hs rs cs′ vs′ os′ ms′ hs′ rs′ r says s e
+  pub runs-balance : (s : Summary) → r ≡ Ran s → s .stores ≡ s .finds + filled (bench i .slots)
+  runs-balance s e = law.ran-balance i l m r says s e
 
-  -- demand 3: exactly the returned, stored and finding operations, each once; precedence kept; each take gets what it got; the filled slots stay;
-  -- so it is a linearization: of the bench whose codes, samples and order the run wrote
+  -- demand 3, told by nothing but what the run wrote: its order lists exactly the returned operations, the unreturned puts that stored and the unreturned
+  -- takes that found something, each once; one that returned before another was called stands before it; on a plain queue each take gets what it got,
+  -- and the samples of the filled slots stay; so it is a linearization
   pub order-of-a-run : (s : Summary) → r ≡ Ran s
-      → Linearized (tableOf thread kind sample) (benchAfter threads slots thread kind sample schedule) × (take (s .order) os′ ≡ order (benchAfter threads slots thread kind sample schedule))
-  order-of-a-run s e = (
-    law.ran-linearized threads slots thread kind sample schedule cs vs os ms hs rs cs′ vs′ os′ ms′ hs′ rs′ r says s e,
-    law.wrote-order threads slots thread kind sample schedule cs vs os ms hs rs cs′ vs′ os′ ms′ hs′ rs′ r says s e,
-  )
+      → Linearized (table i) (history i s m) (take (i .threads) (m .records)) (take (i .slots) (m .marks)) (take (i .slots) (m .held)) (take (s .order) (m .order))
+  order-of-a-run s e = law.ran-linearized i l m r says s e
 
   -- the judge, given what the run wrote, says 0
-  pub judge-passes-runs : (s : Summary) → r ≡ Ran s → judged threads thread kind sample (take (s .events) cs′) (take (s .events) vs′) (take (s .order) os′) ≡ Says Linear
-  judge-passes-runs s e = law.ran-judged threads slots thread kind sample schedule cs vs os ms hs rs cs′ vs′ os′ ms′ hs′ rs′ r says s e
+  pub judge-passes-runs : (s : Summary) → r ≡ Ran s
+      → judged (i .threads) (i .thread) (i .kind) (i .sample) (take (s .events) (m .codes)) (take (s .events) (m .samples)) (take (s .order) (m .order)) ≡ Says Linear
+  judge-passes-runs s e = law.ran-judged i l m r says s e
+
+  pub run-one : (n : Lists) (q : Outcome) → Runs i l n q → (m ≡ n) × (r ≡ q)
+  run-one n q a = law.one-result i l m r says n q a
 
 -- ---- the judge
 
--- 'An order proposed for a history is accepted exactly if it is a linearization of it'
-pub accepted-exactly : (threads : ℕ) (thread kind : List ℕ) (sample : List ℤ) (cs : List ℕ) (xs : List ℤ) (proposed : List ℕ)
-    → (judged threads thread kind sample cs xs proposed ≡ Says Linear → Linearizes (tableOf thread kind sample) (events (tableOf thread kind sample) cs xs) proposed)
-    × (judgeRefusal threads thread kind sample cs xs ≡ Pass → Linearizes (tableOf thread kind sample) (events (tableOf thread kind sample) cs xs) proposed → judged threads thread kind sample cs xs proposed ≡ Says Linear)
-accepted-exactly threads thread kind sample cs xs proposed = (verdict-sound threads thread kind sample cs xs proposed, verdict-complete threads thread kind sample cs xs proposed)
+module _ (threads : ℕ) (thread kind : List ℕ) (sample : List ℤ) (codes : List ℕ) (samples : List ℤ) (proposed : List ℕ) where
+  -- 'An order proposed for a history is accepted exactly if it is a linearization of it'
+  pub accepted-exactly :
+      (judged threads thread kind sample codes samples proposed ≡ Says Linear
+        → Linearizes (tableOf thread kind sample) (events (tableOf thread kind sample) codes samples) proposed)
+      × (judgeRefusal threads thread kind sample codes samples ≡ Pass → Linearizes (tableOf thread kind sample) (events (tableOf thread kind sample) codes samples) proposed
+        → judged threads thread kind sample codes samples proposed ≡ Says Linear)
+  accepted-exactly = (verdict-sound threads thread kind sample codes samples proposed, verdict-complete threads thread kind sample codes samples proposed)
+
+  pub judge-one : (r q : Judged) → r ≡ judged threads thread kind sample codes samples proposed → q ≡ judged threads thread kind sample codes samples proposed → r ≡ q
+  judge-one r q a b = a ∙ sym b
 
 -- ---- run files
 
@@ -126,14 +104,33 @@ pub same-lists : {threads slots : ℕ} {thread kind : List ℕ} {sample : List �
     → length thread ≤ length thread₀ → length thread ≤ length kind₀ → length thread ≤ length sample₀ → length schedule ≤ length schedule₀
     → (r ≡ Run threads slots (length thread) (length schedule))
     × ((thread′ ≡ over thread thread₀) × ((kind′ ≡ over kind kind₀) × ((sample′ ≡ over sample sample₀) × (schedule′ ≡ over schedule schedule₀))))
-same-lists w f a ht hk hx hs = read-write w f a ht hk hx hs
+same-lists w f a ht hk hx hs = file.read-write w f a ht hk hx hs
 
 -- 'writing what was read gives the same bytes': whatever `read_run` read, `write_run` writes back
 pub same-bytes : {s thread₀ kind₀ : List ℕ} {sample₀ : List ℤ} {schedule₀ : List ℕ} {n m o t : ℕ} {thread kind : List ℕ} {sample : List ℤ} {schedule : List ℕ}
     → ReadSays s thread₀ kind₀ sample₀ schedule₀ (Run n m o t) thread kind sample schedule → {text₀ text : List ℕ} {r : Written}
     → WriteSays n m (take o thread) (take o kind) (take o sample) (take t schedule) text₀ r text → length s ≤ length text₀
     → (r ≡ Bytes (length s)) × (text ≡ over s text₀)
-same-bytes a w h = write-read a w h
+same-bytes a w h = file.write-read a w h
+
+-- 'A refused call writes nothing into memory that was lent', of the reader
+pub refused-read : {s thread₀ kind₀ : List ℕ} {sample₀ : List ℤ} {schedule₀ : List ℕ} {x : Refusal} {thread kind : List ℕ} {sample : List ℤ} {schedule : List ℕ}
+    → ReadSays s thread₀ kind₀ sample₀ schedule₀ (Unread x) thread kind sample schedule → (thread ≡ thread₀) × (kind ≡ kind₀) × (sample ≡ sample₀) × (schedule ≡ schedule₀)
+refused-read a = (a .threads, a .kinds, a .samples, a .steps)
+
+-- and of the writer
+pub refused-write : {threads slots : ℕ} {thread kind : List ℕ} {sample : List ℤ} {schedule text₀ text : List ℕ} {x : Refusal}
+    → WriteSays threads slots thread kind sample schedule text₀ (Unwritten x) text → text ≡ text₀
+refused-write a = a .bytes
+
+pub read-one : {s thread₀ kind₀ : List ℕ} {sample₀ : List ℤ} {schedule₀ : List ℕ} {r r′ : Read} {thread thread′ kind kind′ : List ℕ} {sample sample′ : List ℤ} {schedule schedule′ : List ℕ}
+    → ReadSays s thread₀ kind₀ sample₀ schedule₀ r thread kind sample schedule → ReadSays s thread₀ kind₀ sample₀ schedule₀ r′ thread′ kind′ sample′ schedule′
+    → (r ≡ r′) × ((thread ≡ thread′) × ((kind ≡ kind′) × ((sample ≡ sample′) × (schedule ≡ schedule′))))
+read-one a b = file.read-only a b
+
+pub write-one : {threads slots : ℕ} {thread kind : List ℕ} {sample : List ℤ} {schedule text₀ text text′ : List ℕ} {r r′ : Written}
+    → WriteSays threads slots thread kind sample schedule text₀ r text → WriteSays threads slots thread kind sample schedule text₀ r′ text′ → (r ≡ r′) × (text ≡ text′)
+write-one a b = file.write-only a b
 
 -- ---- the worked runs
 

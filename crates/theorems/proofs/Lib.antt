@@ -1,3 +1,4 @@
+pub mod ShownLaws
 pub mod OrderLaws
 pub mod JudgedLaws
 pub mod WorkedLaws

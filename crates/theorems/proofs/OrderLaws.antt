@@ -1,7 +1,7 @@
 -- The listed order of every run is a linearization of its history, and the judge's verdict on it is 0 (demand 3; document 01, 'The judge'). Assumes nothing.
 use mathlib.Core.Path.{_≡_, refl, sym, ap, _∙_}
 use mathlib.Core.Logic.{inl}
-use mathlib.Core.List.{List, [], _∷_, _++_}
+use mathlib.Core.List.{List, [], _∷_, _++_, map}
 use mathlib.Core.Option.{Option, some}
 use Prim.Native.Nat.{ℕ, _+_, _≤_, _<_}
 use lib.IntN.{ℤ, pos}
@@ -22,12 +22,14 @@ use Rattle.linear.proofs.SoundLaws.{conditions-linearize}
 use Rattle.linear.proofs.VerdictLaws.{verdict-0}
 use Rattle.machine.specs.Bench.{Bench, start, played}
 use Rattle.machine.specs.Counts.{over, storeStep, findStep}
-use Rattle.machine.specs.Shown.{filled, order, codes, samples}
+use Rattle.machine.specs.Shown.{filled, mark, held, order, codes, samples, records}
 use Rattle.machine.proofs.CountLaws.{PutsAtMost}
 use Rattle.machine.proofs.RunLaws.{Run, run-played, history-stands, history-right, history-sound, puts-fit, stores-finds}
 use Rattle.machine.proofs.ChainLaws.{OrderedAt, ordered-played}
-use Rattle.machine.proofs.DemandLaws.{run-plays, listed-only, listed-all, listed-called, run-once, run-keeps, gets-one}
-use Rattle.theorems.specs.Demand.{Gets, remainsAt, remains, stays, Linearized}
+use Rattle.machine.proofs.DemandLaws.{Gets, stays, run-plays, listed-only, listed-all, listed-called, run-once, run-keeps, gets-one}
+use Rattle.theorems.specs.Demand.{remainsAt, remains, Linearized}
+use Rattle.theorems.specs.Demand as shown
+use Rattle.theorems.proofs.ShownLaws.{stays-shown, listed-shown, shown-listed, gets-shown}
 
 -- a play that names what each take gets and what stays, as the judge's play and what remains
 plays-remains : (T : Table) (Get Get′ : ℕ → ℤ → Type 0) → ((o : ℕ) (x : ℤ) → Get o x → Get′ o x) → (l : List ℕ) (q rest : List ℤ) → Meets T Get q l rest
@@ -59,16 +61,16 @@ module _ (T : Table) (n m : ℕ) (B : Bench) (r : Run T n m B) (i : OrderedAt T 
   pub run-24 : Not24 T (B .history) (order B)
   run-24 = plays-remains T (Gets T B) (MayGet (B .history)) (gets-one T n m B r i) (order B) [] (stays (B .slots)) (run-plays T n m B r i) .0
 
-  pub run-linearized : Linearized T B
+  pub run-linearized : Linearized T (B .history) (records B) (map mark (B .slots)) (map held (B .slots)) (order B)
   run-linearized =
-      let p = plays-remains T (Gets T B) (Gets T B) (λ o x g. g) (order B) [] (stays (B .slots)) (run-plays T n m B r i) in
+      let p = plays-remains T (Gets T B) (shown.Gets T (B .history) (records B)) (gets-shown T n m B r i) (order B) [] (stays (B .slots)) (run-plays T n m B r i) in
       record {
-        only = listed-only T n m B r i;
-        every = listed-all T n m B r i;
+        only = λ o k. listed-shown T n m B r i o (listed-only T n m B r i o k);
+        every = λ o k. listed-all T n m B r i o (shown-listed T n m B r i o k);
         once = run-once T n m B r i;
         kept = run-keeps T n m B r i;
         played = p .0;
-        left = p .1;
+        left = p .1 ∙ stays-shown (B .slots);
         linear = conditions-linearize T (B .history) (order B) (history-sound T n m B r) run-20 run-21 run-22 run-23 run-24;
       }
 
@@ -102,7 +104,7 @@ module _ (threads slots : ℕ) (thread kind : List ℕ) (sample : List ℤ) (sch
   fit : All (λ t. t < threads) schedule
   fit = all-of-getD (λ t. t < threads) schedule 0 named
 
-  pub demand-three : Linearized T after
+  pub demand-three : Linearized T (after .history) (records after) (map mark (after .slots)) (map held (after .slots)) (order after)
   demand-three = run-linearized T threads slots after (run-played T threads slots most schedule fit) (ordered-played T threads slots most schedule fit)
 
   -- the judge gets the run's codes, samples and order, and says 0
