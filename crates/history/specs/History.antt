@@ -3,19 +3,16 @@
 --   Event            a call, or a return: a take's with the sample it got, a put's with none
 --   Returned h o     operation o has returned
 --   Precedes h a b   the return of a is earlier than the call of b
---   precedes?        which of the two it is, by computation
 --   codeOf, beside   the event's code, and the sample beside it
 --   eventOf, events  the events that codes and samples give
 use mathlib.Core.Path.{_≡_}
-use mathlib.Core.Logic.{_⊎_, inl, inr}
-use mathlib.Core.List.{List, [], _∷_, _++_}
+use mathlib.Core.Logic.{_⊎_}
+use mathlib.Core.List.{List, [], _∷_}
 use mathlib.Core.Bool.{cond}
 use mathlib.Core.Option.{Option, none, some}
 use Prim.Native.Nat.{ℕ, _+_, _*_, _/_, _%_}
-use native.Mathlib.Decide.{ℕ-discrete}
 use lib.Dec.{eqb}
 use lib.IntN.{ℤ, pos}
-use Rattle.limits.specs.Lists.{Mem}
 use Rattle.limits.specs.Operations.{Kind, putting, taking, Table}
 
 pub data Event : Type 0 where
@@ -36,32 +33,6 @@ abbrev pub Precedes : List Event → ℕ → ℕ → Type 0
 Precedes [] a b = ⊥
 Precedes (call c ∷ h) a b = Precedes h a b
 Precedes (ret c v ∷ h) a b = ((a ≡ c) × Called h b) ⊎ Precedes h a b
-
--- ---- the same, decided
-
-abbrev pub both? : {P Q : Type 0} → Dec P → Dec Q → Dec (P × Q)
-both? (yes p) (yes q) = yes (p, q)
-both? (yes p) (no q) = no (λ r. q (r .1))
-both? (no p) q = no (λ r. p (r .0))
-
-pub neither : {P Q : Type 0} → ¬ P → ¬ Q → P ⊎ Q → ⊥
-neither p q (inl a) = p a
-neither p q (inr b) = q b
-
-abbrev pub either? : {P Q : Type 0} → Dec P → Dec Q → Dec (P ⊎ Q)
-either? (yes p) q = yes (inl p)
-either? (no p) (yes q) = yes (inr q)
-either? (no p) (no q) = no (neither p q)
-
-abbrev pub called? : (h : List Event) (o : ℕ) → Dec (Called h o)
-called? [] o = no (λ e. e)
-called? (call p ∷ h) o = either? (ℕ-discrete o p) (called? h o)
-called? (ret p a ∷ h) o = called? h o
-
-abbrev pub precedes? : (h : List Event) (a b : ℕ) → Dec (Precedes h a b)
-precedes? [] a b = no (λ e. e)
-precedes? (call c ∷ h) a b = precedes? h a b
-precedes? (ret c v ∷ h) a b = either? (both? (ℕ-discrete a c) (called? h b)) (precedes? h a b)
 
 -- ---- codes and samples: 2 × operation for a call, 2 × operation + 1 for a return; beside it what a returned take got, else 0
 

@@ -7,7 +7,8 @@ use native.Mathlib.Omega.{arith}
 use lib.IntN.{ℤ, pos}
 use lib.ListN.{getD, take}
 use Rattle.limits.specs.Operations.{Kind, putting, taking, Table}
-use Rattle.history.specs.History.{Event, call, ret, Returned, eventOf, events, both?, called?}
+use Rattle.history.specs.History.{Event, call, ret, Returned, eventOf, events}
+use Rattle.history.specs.Decide.{both?, called?}
 use Rattle.history.specs.Standing.{CanStand}
 use Rattle.linear.specs.Decide.{not?, implies?, through?, int?, returned?}
 use Rattle.judge.specs.Stand.{StandsAt}

@@ -9,7 +9,8 @@ use native.Mathlib.Omega.{arith}
 use lib.IntN.{ℤ, pos, negsuc}
 use Rattle.limits.specs.Lists.{All, Mem, Pw}
 use Rattle.limits.specs.Operations.{Kind, putting, taking, Table}
-use Rattle.history.specs.History.{Event, call, ret, Returned, both?, either?, called?, precedes?}
+use Rattle.history.specs.History.{Event, call, ret, Returned}
+use Rattle.history.specs.Decide.{both?, either?, called?, precedes?}
 use Rattle.linear.specs.Conditions.{MayGet, PlaysAt, Plays, Not20, Not21, Not22, Not23, Not24}
 
 clash : {A : Type 0} → _≡_ {A = ℕ} 0 1 → A

@@ -22,7 +22,7 @@ use Rattle.machine.specs.declared.Phase.the-variants.{Rest, CalledPut, Reserved
 use Rattle.machine.specs.Bench.{Empty, Filled}
 use Rattle.run.specs.declared.Summary.{Summary}
 use Rattle.listing.specs.Lines.{line, eventLine, orderLine, slotLine, threadLine, countLine, countLines}
-use Rattle.listing.specs.Words.{backWord, stepsWord, idleWord, storesWord, swapsWord, findsWord, fruitlessWord}
+use Rattle.numerals.specs.Words.{bytes}
 use Rattle.listing.specs.Twins.{eventBy, slotBy, phaseText}
 use Rattle.listing.proofs.LineLaws.{thread-parts}
 
@@ -100,20 +100,20 @@ before-low w n rest k fits low p = omega (arith, length-append (countLine w n) r
 
 pub counts-low : (s : Summary) → SummaryFits s → length (countLines s) ≤ 222
 counts-low s f =
-    let last = countLine fruitlessWord (s .fruitless) in
-    let finds = countLine findsWord (s .finds) ++ last in
-    let swaps = countLine swapsWord (s .swaps) ++ finds in
-    let stores = countLine storesWord (s .stores) ++ swaps in
-    let idle = countLine idleWord (s .idle) ++ stores in
-    before-low stepsWord (s .steps) idle 185 (f .steps) (omega arith)
-    (before-low idleWord (s .idle) stores 148 (f .idle) (omega arith)
-    (before-low storesWord (s .stores) swaps 111 (f .stores) (omega arith)
-    (before-low swapsWord (s .swaps) finds 74 (f .swaps) (omega arith)
-    (before-low findsWord (s .finds) last 37 (f .finds) (omega arith) (count-low fruitlessWord (s .fruitless) (f .fruitless) (omega arith))))))
+    let last = countLine (bytes "fruitless") (s .fruitless) in
+    let finds = countLine (bytes "finds") (s .finds) ++ last in
+    let swaps = countLine (bytes "swaps") (s .swaps) ++ finds in
+    let stores = countLine (bytes "stores") (s .stores) ++ swaps in
+    let idle = countLine (bytes "idle") (s .idle) ++ stores in
+    before-low (bytes "steps") (s .steps) idle 185 (f .steps) (omega arith)
+    (before-low (bytes "idle") (s .idle) stores 148 (f .idle) (omega arith)
+    (before-low (bytes "stores") (s .stores) swaps 111 (f .stores) (omega arith)
+    (before-low (bytes "swaps") (s .swaps) finds 74 (f .swaps) (omega arith)
+    (before-low (bytes "finds") (s .finds) last 37 (f .finds) (omega arith) (count-low (bytes "fruitless") (s .fruitless) (f .fruitless) (omega arith))))))
 
 -- ---- the whole
 
-pub back-low : (n : ℕ) → n ≤ 18446744073709551615 → length (line (backWord ∷ decimal n ∷ [])) ≤ 26
+pub back-low : (n : ℕ) → n ≤ 18446744073709551615 → length (line (bytes "back" ∷ decimal n ∷ [])) ≤ 26
 back-low n fits = omega (arith, number-end n, decimal-short 19 n (omega arith))
 
 -- 256 events, 128 entries of the order, 64 slots and 16 threads at most

@@ -15,7 +15,7 @@ use Rattle.numerals.specs.Decimal.{decimal}
 use Rattle.machine.specs.declared.Phase.{Phase}
 use Rattle.machine.specs.declared.Phase.the-variants.{Rest, CalledPut, Reserved, Stored, CalledTake, Scanning, Holding}
 use Rattle.machine.specs.Bench.{Empty, Filled}
-use Rattle.listing.specs.Words.{threadWord}
+use Rattle.numerals.specs.Words.{bytes}
 use Rattle.listing.specs.Lines.{eventLine, slotLine, threadLine}
 use Rattle.listing.specs.Twins.{returnBy, eventBy, slotBy, phaseText}
 
@@ -41,7 +41,7 @@ pub marked-line : (i m : ℕ) (x : ℤ) → m ≢ 0 → slotLine i (Filled x) �
 marked-line i m x n = ap (λ (b : Bool). slotLine i (cond b Empty (Filled x))) (sym (ne-eqb m 0 n))
 
 -- a thread's line is its number's part and its phase's part
-pub thread-parts : (t : ℕ) (p : Phase) → threadWord ++ (9 ∷ (decimal t ++ (9 ∷ phaseText p))) ≡ threadLine t p
+pub thread-parts : (t : ℕ) (p : Phase) → bytes "thread" ++ (9 ∷ (decimal t ++ (9 ∷ phaseText p))) ≡ threadLine t p
 thread-parts t Rest = refl
 thread-parts t CalledPut = refl
 thread-parts t (Reserved i) = refl

@@ -23,7 +23,7 @@ use Rattle.machine.proofs.RunLaws.{Run, run-played, puts-fit, workers-length, s
 use Rattle.run.specs.Run.{benchAfter, summaryOf, restRecord, recordsAfter}
 use Rattle.listing.specs.Lines.{line, linesFrom, eventLine, orderLine, slotLine, threadLine, countLines, listingOf}
 use Rattle.listing.specs.Listing.{listingText}
-use Rattle.listing.specs.Words.{backWord}
+use Rattle.numerals.specs.Words.{bytes}
 use Rattle.listing.specs.Twins.{upto, eventAt, orderAt, slotAt, threadAt, listingBy}
 use Rattle.numerals.specs.Decimal.{decimal}
 
@@ -122,4 +122,4 @@ module _ (threads slots : ℕ) (thread kind : List ℕ) (sample : List ℤ) (sch
     unfolding listingBy listingText listingOf summaryOf
     listing-same =
         let s = summaryOf threads slots thread kind sample schedule in
-        λ i. line (backWord ∷ decimal (s .back) ∷ []) ++ (event-lines i ++ (order-lines i ++ (slot-lines i ++ (thread-lines i ++ countLines s))))
+        λ i. line (bytes "back" ∷ decimal (s .back) ∷ []) ++ (event-lines i ++ (order-lines i ++ (slot-lines i ++ (thread-lines i ++ countLines s))))

@@ -24,7 +24,7 @@ use Rattle.machine.specs.declared.Phase.the-variants.{Rest, CalledPut, Reserved
 use Rattle.machine.specs.Bench.{Bench, Slot, Empty, Filled}
 use Rattle.machine.specs.Shown.{order}
 use Rattle.run.specs.declared.Summary.{Summary}
-use Rattle.listing.specs.Words.{backWord, eventWord, callWord, returnWord, orderWord, slotWord, emptyWord, threadWord, restWord, calledPutWord, reservedWord, storedWord, calledTakeWord, scanningWord, holdingWord, countWord, stepsWord, idleWord, storesWord, swapsWord, findsWord, fruitlessWord, refusedWord}
+use Rattle.numerals.specs.Words.{bytes}
 
 abbrev pub line : List (List ℕ) → List ℕ
 line [] = 10 ∷ []
@@ -42,43 +42,43 @@ answerFields none = []
 answerFields (some x) = sampleText x ∷ []
 
 abbrev pub eventLine : Event → List ℕ
-eventLine (call o) = line (eventWord ∷ callWord ∷ decimal o ∷ [])
-eventLine (ret o a) = line (eventWord ∷ returnWord ∷ decimal o ∷ answerFields a)
+eventLine (call o) = line (bytes "event" ∷ bytes "call" ∷ decimal o ∷ [])
+eventLine (ret o a) = line (bytes "event" ∷ bytes "return" ∷ decimal o ∷ answerFields a)
 
 abbrev pub orderLine : ℕ → List ℕ
-orderLine o = line (orderWord ∷ decimal o ∷ [])
+orderLine o = line (bytes "order" ∷ decimal o ∷ [])
 
 -- an empty slot is a state of its own: 0 is a sample
 abbrev pub slotField : Slot → List ℕ
-slotField Empty = emptyWord
+slotField Empty = bytes "empty"
 slotField (Filled x) = sampleText x
 
 abbrev pub slotLine : ℕ → Slot → List ℕ
-slotLine i s = line (slotWord ∷ decimal i ∷ slotField s ∷ [])
+slotLine i s = line (bytes "slot" ∷ decimal i ∷ slotField s ∷ [])
 
 abbrev pub phaseFields : Phase → List (List ℕ)
-phaseFields Rest = restWord ∷ []
-phaseFields CalledPut = calledPutWord ∷ []
-phaseFields (Reserved i) = reservedWord ∷ decimal i ∷ []
-phaseFields Stored = storedWord ∷ []
-phaseFields CalledTake = calledTakeWord ∷ []
-phaseFields (Scanning j b) = scanningWord ∷ decimal j ∷ []
-phaseFields (Holding x) = holdingWord ∷ sampleText x ∷ []
+phaseFields Rest = bytes "rest" ∷ []
+phaseFields CalledPut = bytes "called-put" ∷ []
+phaseFields (Reserved i) = bytes "reserved" ∷ decimal i ∷ []
+phaseFields Stored = bytes "stored" ∷ []
+phaseFields CalledTake = bytes "called-take" ∷ []
+phaseFields (Scanning j b) = bytes "scanning" ∷ decimal j ∷ []
+phaseFields (Holding x) = bytes "holding" ∷ sampleText x ∷ []
 
 abbrev pub threadLine : ℕ → Phase → List ℕ
-threadLine t p = line (threadWord ∷ decimal t ∷ phaseFields p)
+threadLine t p = line (bytes "thread" ∷ decimal t ∷ phaseFields p)
 
 abbrev pub countLine : List ℕ → ℕ → List ℕ
-countLine w n = line (countWord ∷ w ∷ decimal n ∷ [])
+countLine w n = line (bytes "count" ∷ w ∷ decimal n ∷ [])
 
 abbrev pub countLines : Summary → List ℕ
 countLines s =
-    countLine stepsWord (s .steps) ++ (countLine idleWord (s .idle) ++ (countLine storesWord (s .stores)
-    ++ (countLine swapsWord (s .swaps) ++ (countLine findsWord (s .finds) ++ countLine fruitlessWord (s .fruitless)))))
+    countLine (bytes "steps") (s .steps) ++ (countLine (bytes "idle") (s .idle) ++ (countLine (bytes "stores") (s .stores)
+    ++ (countLine (bytes "swaps") (s .swaps) ++ (countLine (bytes "finds") (s .finds) ++ countLine (bytes "fruitless") (s .fruitless)))))
 
 unfoldable pub listingOf : Summary → Bench → List ℕ
 listingOf s B =
-    line (backWord ∷ decimal (s .back) ∷ [])
+    line (bytes "back" ∷ decimal (s .back) ∷ [])
     ++ (linesFrom (λ i e. eventLine e) 0 (B .history)
     ++ (linesFrom (λ i o. orderLine o) 0 (order B)
     ++ (linesFrom slotLine 0 (B .slots)
@@ -86,4 +86,4 @@ listingOf s B =
     ++ countLines s))))
 
 unfoldable pub refusedLine : Refusal → List ℕ
-refusedLine r = line (refusedWord ∷ decimal (refusalNumber r) ∷ decimal (refusalDetail r) ∷ [])
+refusedLine r = line (bytes "refused" ∷ decimal (refusalNumber r) ∷ decimal (refusalDetail r) ∷ [])

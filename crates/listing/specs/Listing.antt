@@ -38,12 +38,23 @@ abbrev pub listingAs : Fit → ℕ → Listing
 listingAs F.Pass bytes = Bytes bytes
 listingAs (F.Refused r) bytes = Refused r
 
-pub record ListSays (threads slots : ℕ) (thread kind : List ℕ) (sample : List ℤ) (schedule text : List ℕ) (r : Listing) (text′ : List ℕ) : Type 0 where
-  pub answer : r ≡ listingAs (listingFit threads slots thread kind sample schedule (length text)) (length (listingText threads slots thread kind sample schedule))
-  pub bytes : text′ ≡ lentAfter (listingFit threads slots thread kind sample schedule (length text)) (listingText threads slots thread kind sample schedule) text
-  pub short : inputRefusal threads slots thread kind sample schedule ≡ F.Pass → length (listingText threads slots thread kind sample schedule) ≤ 12288
+module _ (threads slots : ℕ) (thread kind : List ℕ) (sample : List ℤ) (schedule text : List ℕ) where
+  abbrev w : List ℕ
+  w = listingText threads slots thread kind sample schedule
 
-pub record RefusalSays (refusal : Refusal) (text : List ℕ) (r : Listing) (text′ : List ℕ) : Type 0 where
-  pub answer : r ≡ listingAs (textFit (length (refusedLine refusal)) (length text)) (length (refusedLine refusal))
-  pub bytes : text′ ≡ lentAfter (textFit (length (refusedLine refusal)) (length text)) (refusedLine refusal) text
-  pub short : length (refusedLine refusal) ≤ 64
+  abbrev fit : Fit
+  fit = listingFit threads slots thread kind sample schedule (length text)
+
+  pub record ListSays (r : Listing) (text′ : List ℕ) : Type 0 where
+    pub answer : r ≡ listingAs fit (length w)
+    pub bytes : text′ ≡ lentAfter fit w text
+    pub short : inputRefusal threads slots thread kind sample schedule ≡ F.Pass → length w ≤ 12288
+
+module _ (refusal : Refusal) (text : List ℕ) where
+  abbrev l : List ℕ
+  l = refusedLine refusal
+
+  pub record RefusalSays (r : Listing) (text′ : List ℕ) : Type 0 where
+    pub answer : r ≡ listingAs (textFit (length l) (length text)) (length l)
+    pub bytes : text′ ≡ lentAfter (textFit (length l) (length text)) l text
+    pub short : length l ≤ 64

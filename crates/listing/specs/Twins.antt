@@ -25,7 +25,7 @@ use Rattle.run.specs.declared.Summary.{Summary}
 use Rattle.run.specs.Run.{lentAfter, restRecord}
 use Rattle.numerals.specs.Decimal.{decimal}
 use Rattle.listing.specs.declared.Listing.{Listing}
-use Rattle.listing.specs.Words.{backWord}
+use Rattle.numerals.specs.Words.{bytes}
 use Rattle.listing.specs.Lines.{line, eventLine, orderLine, slotLine, threadLine, phaseFields, countLines}
 use Rattle.listing.specs.Listing.{textFit, listingAs}
 
@@ -71,7 +71,7 @@ pub record Shown (s : Summary) (threads slots codes values order marks held : �
 
 unfoldable pub listingBy : Summary → List ThreadRecord → ℕ → ℕ → List ℕ → List ℕ → List ℤ → List ℕ → List ℕ → List ℤ → List ℕ
 listingBy s records threads slots kind codes values order marks held =
-    line (backWord ∷ decimal (s .back) ∷ [])
+    line (bytes "back" ∷ decimal (s .back) ∷ [])
     ++ (upto (eventAt kind codes values) (s .events) ++ (upto (orderAt order) (s .order)
     ++ (upto (slotAt marks held) slots ++ (upto (threadAt records) threads ++ countLines s))))
 

@@ -11,6 +11,7 @@ use Rattle.limits.specs.Operations.{Table}
 use Rattle.machine.specs.declared.Phase.{Phase}
 use Rattle.machine.specs.declared.Phase.the-variants.{Rest, CalledPut, Reserved, Stored, CalledTake, Scanning, Holding}
 use Rattle.machine.specs.Bench.{Bench, Slot, Empty, Filled, workerAt, step}
+use Rattle.machine.specs.Shown.{phaseCode}
 
 unfoldable pub over : (Bench → ℕ → ℕ) → Table → Bench → List ℕ → ℕ
 over f T B [] = 0
@@ -22,23 +23,11 @@ noneLeft (o ∷ todo) = 0
 
 -- a step from phase 0 with no operation left
 abbrev pub idleIn : List ℕ → Phase → ℕ
-idleIn todo Rest = noneLeft todo
-idleIn todo CalledPut = 0
-idleIn todo (Reserved i) = 0
-idleIn todo Stored = 0
-idleIn todo CalledTake = 0
-idleIn todo (Scanning j b) = 0
-idleIn todo (Holding x) = 0
+idleIn todo p = cond (eqb (phaseCode p) 0) (noneLeft todo) 0
 
 -- a step from phase 2
 abbrev pub storeIn : Phase → ℕ
-storeIn Rest = 0
-storeIn CalledPut = 0
-storeIn (Reserved i) = 1
-storeIn Stored = 0
-storeIn CalledTake = 0
-storeIn (Scanning j b) = 0
-storeIn (Holding x) = 0
+storeIn p = cond (eqb (phaseCode p) 2) 1 0
 
 -- of a step from phase 5, f of its slot number, its end and what the slot holds
 abbrev pub scanIn : (ℕ → ℕ → Slot → ℕ) → List Slot → Phase → ℕ

@@ -1,3 +1,4 @@
 pub mod Decimal
 pub mod Samples
 pub mod Places
+pub mod Words

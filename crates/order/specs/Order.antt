@@ -9,7 +9,8 @@ use mathlib.Core.Logic.{_⊎_}
 use mathlib.Core.List.{List, [], _∷_, _++_, map}
 use Prim.Native.Nat.{ℕ}
 use native.Mathlib.Decide.{ℕ-discrete}
-use Rattle.history.specs.History.{Event, Precedes, precedes?, either?}
+use Rattle.history.specs.History.{Event, Precedes}
+use Rattle.history.specs.Decide.{precedes?, either?}
 
 -- x stands before the parts that the rest of its row was cut in; alone it is kept only if the test says so
 abbrev pub glue : {P : Type 0} → ℕ → List ℕ → Dec P → List ℕ → List ℕ → List ℕ × List ℕ

@@ -8,19 +8,27 @@ use mathlib.Core.List.{List, map}
 use Prim.Native.Nat.{ℕ}
 use lib.IntN.{ℤ}
 use lib.ListN.{length}
+use Rattle.limits.specs.declared.Fit.{Fit}
 use Rattle.machine.specs.declared.ThreadRecord.{ThreadRecord}
+use Rattle.machine.specs.Bench.{Bench}
 use Rattle.machine.specs.Shown.{order, codes, samples, mark, held, records}
 use Rattle.run.specs.declared.Outcome.{Outcome}
 use Rattle.run.specs.Run.{roomOf, runFit, benchAfter, outcomeOf, lentAfter}
 
 -- from the input and the lent lists cs, vs, os, ms, hs, rs to the lists cs′ … afterwards and the answer
-pub record RecordsSay (threads slots : ℕ) (thread kind : List ℕ) (sample : List ℤ) (schedule : List ℕ)
-    (cs : List ℕ) (vs : List ℤ) (os ms : List ℕ) (hs : List ℤ) (rs : List ThreadRecord)
-    (cs′ : List ℕ) (vs′ : List ℤ) (os′ ms′ : List ℕ) (hs′ : List ℤ) (rs′ : List ThreadRecord) (r : Outcome) : Type 0 where
-  pub outcome : r ≡ outcomeOf threads slots thread kind sample schedule (roomOf cs vs os ms hs (length rs))
-  pub codes : cs′ ≡ lentAfter (runFit threads slots thread kind sample schedule (roomOf cs vs os ms hs (length rs))) (codes (benchAfter threads slots thread kind sample schedule)) cs
-  pub samples : vs′ ≡ lentAfter (runFit threads slots thread kind sample schedule (roomOf cs vs os ms hs (length rs))) (samples (benchAfter threads slots thread kind sample schedule)) vs
-  pub order : os′ ≡ lentAfter (runFit threads slots thread kind sample schedule (roomOf cs vs os ms hs (length rs))) (order (benchAfter threads slots thread kind sample schedule)) os
-  pub marks : ms′ ≡ lentAfter (runFit threads slots thread kind sample schedule (roomOf cs vs os ms hs (length rs))) (map mark (benchAfter threads slots thread kind sample schedule .slots)) ms
-  pub held : hs′ ≡ lentAfter (runFit threads slots thread kind sample schedule (roomOf cs vs os ms hs (length rs))) (map held (benchAfter threads slots thread kind sample schedule .slots)) hs
-  pub records : rs′ ≡ lentAfter (runFit threads slots thread kind sample schedule (roomOf cs vs os ms hs (length rs))) (records (benchAfter threads slots thread kind sample schedule)) rs
+module _ (threads slots : ℕ) (thread kind : List ℕ) (sample : List ℤ) (schedule : List ℕ)
+    (cs : List ℕ) (vs : List ℤ) (os ms : List ℕ) (hs : List ℤ) (rs : List ThreadRecord) where
+  abbrev fit : Fit
+  fit = runFit threads slots thread kind sample schedule (roomOf cs vs os ms hs (length rs))
+
+  abbrev B : Bench
+  B = benchAfter threads slots thread kind sample schedule
+
+  pub record RecordsSay (cs′ : List ℕ) (vs′ : List ℤ) (os′ ms′ : List ℕ) (hs′ : List ℤ) (rs′ : List ThreadRecord) (r : Outcome) : Type 0 where
+    pub outcome : r ≡ outcomeOf threads slots thread kind sample schedule (roomOf cs vs os ms hs (length rs))
+    pub codes : cs′ ≡ lentAfter fit (codes B) cs
+    pub samples : vs′ ≡ lentAfter fit (samples B) vs
+    pub order : os′ ≡ lentAfter fit (order B) os
+    pub marks : ms′ ≡ lentAfter fit (map mark (B .slots)) ms
+    pub held : hs′ ≡ lentAfter fit (map held (B .slots)) hs
+    pub records : rs′ ≡ lentAfter fit (records B) rs

@@ -89,13 +89,19 @@ unfoldable pub recordsAfter : Fit → ℕ → Bench → List ThreadRecord
 recordsAfter Pass threads B = records B ++ drop threads (replicate 16 restRecord)
 recordsAfter (Unfit r) threads B = replicate 16 restRecord
 
--- from the input and the lent lists cs, vs, os, ms, hs (and room for records) to the lists cs′ … afterwards and the answer
-pub record RunSays (threads slots : ℕ) (thread kind : List ℕ) (sample : List ℤ) (schedule : List ℕ) (room : ℕ)
-    (cs : List ℕ) (vs : List ℤ) (os ms : List ℕ) (hs : List ℤ) (cs′ : List ℕ) (vs′ : List ℤ) (os′ ms′ : List ℕ) (hs′ : List ℤ) (r : Final) : Type 0 where
-  pub outcome : r .outcome ≡ outcomeOf threads slots thread kind sample schedule (roomOf cs vs os ms hs room)
-  pub records : r .records ≡ recordsAfter (runFit threads slots thread kind sample schedule (roomOf cs vs os ms hs room)) threads (benchAfter threads slots thread kind sample schedule)
-  pub codes : cs′ ≡ lentAfter (runFit threads slots thread kind sample schedule (roomOf cs vs os ms hs room)) (codes (benchAfter threads slots thread kind sample schedule)) cs
-  pub samples : vs′ ≡ lentAfter (runFit threads slots thread kind sample schedule (roomOf cs vs os ms hs room)) (samples (benchAfter threads slots thread kind sample schedule)) vs
-  pub order : os′ ≡ lentAfter (runFit threads slots thread kind sample schedule (roomOf cs vs os ms hs room)) (order (benchAfter threads slots thread kind sample schedule)) os
-  pub marks : ms′ ≡ lentAfter (runFit threads slots thread kind sample schedule (roomOf cs vs os ms hs room)) (map mark (benchAfter threads slots thread kind sample schedule .slots)) ms
-  pub held : hs′ ≡ lentAfter (runFit threads slots thread kind sample schedule (roomOf cs vs os ms hs room)) (map held (benchAfter threads slots thread kind sample schedule .slots)) hs
+-- from the input, the room for records and the lent lists cs, vs, os, ms, hs to the lists cs′ … afterwards and the answer
+module _ (threads slots : ℕ) (thread kind : List ℕ) (sample : List ℤ) (schedule : List ℕ) (room : ℕ) (cs : List ℕ) (vs : List ℤ) (os ms : List ℕ) (hs : List ℤ) where
+  abbrev fit : Fit
+  fit = runFit threads slots thread kind sample schedule (roomOf cs vs os ms hs room)
+
+  abbrev B : Bench
+  B = benchAfter threads slots thread kind sample schedule
+
+  pub record RunSays (cs′ : List ℕ) (vs′ : List ℤ) (os′ ms′ : List ℕ) (hs′ : List ℤ) (r : Final) : Type 0 where
+    pub outcome : r .outcome ≡ outcomeOf threads slots thread kind sample schedule (roomOf cs vs os ms hs room)
+    pub records : r .records ≡ recordsAfter fit threads B
+    pub codes : cs′ ≡ lentAfter fit (codes B) cs
+    pub samples : vs′ ≡ lentAfter fit (samples B) vs
+    pub order : os′ ≡ lentAfter fit (order B) os
+    pub marks : ms′ ≡ lentAfter fit (map mark (B .slots)) ms
+    pub held : hs′ ≡ lentAfter fit (map held (B .slots)) hs

@@ -19,21 +19,22 @@ use mir.Syntax.{w32}
 use mir.Val.{SFits}
 use Rattle.numerals.specs.Decimal.{decimal}
 use Rattle.numerals.specs.Samples.{sampleText}
+use Rattle.numerals.specs.Words.{bytes}
 
 abbrev pub threadsWord : List ℕ
-threadsWord = 116 ∷ 104 ∷ 114 ∷ 101 ∷ 97 ∷ 100 ∷ 115 ∷ []
+threadsWord = bytes "threads"
 
 abbrev pub slotsWord : List ℕ
-slotsWord = 115 ∷ 108 ∷ 111 ∷ 116 ∷ 115 ∷ []
+slotsWord = bytes "slots"
 
 abbrev pub putWord : List ℕ
-putWord = 112 ∷ 117 ∷ 116 ∷ []
+putWord = bytes "put"
 
 abbrev pub takeWord : List ℕ
-takeWord = 116 ∷ 97 ∷ 107 ∷ 101 ∷ []
+takeWord = bytes "take"
 
 abbrev pub stepWord : List ℕ
-stepWord = 115 ∷ 116 ∷ 101 ∷ 112 ∷ []
+stepWord = bytes "step"
 
 abbrev pub fields : List ℕ → List ℕ → List ℕ
 fields f g = f ++ (9 ∷ g)

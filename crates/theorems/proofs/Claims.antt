@@ -86,9 +86,9 @@ module _ (threads : ℕ) (thread kind : List ℕ) (sample : List ℤ) (codes : L
   -- 'An order proposed for a history is accepted exactly if it is a linearization of it'
   pub accepted-exactly :
       (judged threads thread kind sample codes samples proposed ≡ Says Linear
-        → Linearizes (tableOf thread kind sample) (events (tableOf thread kind sample) codes samples) proposed)
+      → Linearizes (tableOf thread kind sample) (events (tableOf thread kind sample) codes samples) proposed)
       × (judgeRefusal threads thread kind sample codes samples ≡ Pass → Linearizes (tableOf thread kind sample) (events (tableOf thread kind sample) codes samples) proposed
-        → judged threads thread kind sample codes samples proposed ≡ Says Linear)
+      → judged threads thread kind sample codes samples proposed ≡ Says Linear)
   accepted-exactly = (verdict-sound threads thread kind sample codes samples proposed, verdict-complete threads thread kind sample codes samples proposed)
 
   pub judge-one : (r q : Judged) → r ≡ judged threads thread kind sample codes samples proposed → q ≡ judged threads thread kind sample codes samples proposed → r ≡ q

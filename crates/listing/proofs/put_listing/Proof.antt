@@ -4,7 +4,7 @@ use mathlib.Core.List.{[], _∷_}
 use native.Mathlib.Omega.{arith}
 use lib.ListN.{length}
 use Rattle.numerals.specs.Decimal.{decimal}
-use Rattle.listing.specs.Words.{backWord}
+use Rattle.numerals.specs.Words.{bytes}
 use Rattle.listing.specs.Lines.{line, countLines}
 use Rattle.listing.specs.Twins.{upto, eventAt, orderAt, slotAt, threadAt, listingBy}
 use Rattle.listing.proofs.PutLaws.{put-six}
@@ -51,7 +51,7 @@ returns c =
     let a = b .args in
     let s = a .s in (
       put-six (fits-word b) (c .before .before .before .before .before .before .before .before .before .before .before .before .before .before .before .before .before .before .before .before .before .before .put-line .ensures) (c .before .before .before .before .before .before .before .before .before .before .before .before .before .before .before .before .before .before .put-events .ensures .0) (c .before .before .before .before .before .before .before .before .before .before .before .before .before .before .put-order .ensures .0) (c .before .before .before .before .before .before .before .before .before .before .put-slots .ensures .0) (c .before .before .before .before .before .before .put-threads .ensures .0) (c .before .before .put-counts .ensures .0),
-      parts-low (line (backWord ∷ decimal (s .back) ∷ [])) (upto (eventAt (a .kind .now) (a .codes .now) (a .values .now)) (s .events)) (upto (orderAt (a .order .now)) (s .order))
+      parts-low (line (bytes "back" ∷ decimal (s .back) ∷ [])) (upto (eventAt (a .kind .now) (a .codes .now) (a .values .now)) (s .events)) (upto (orderAt (a .order .now)) (s .order))
           (upto (slotAt (a .marks .now) (a .held .now)) (a .slots)) (upto (threadAt (a .records)) (a .threads)) (countLines s)
           (back-low (s .back) (back-fits b)) (omega (arith, c .before .before .before .before .before .before .before .before .before .before .before .before .before .before .before .before .before .before .put-events .ensures .1, b .pre .events .few)) (omega (arith, c .before .before .before .before .before .before .before .before .before .before .before .before .before .before .put-order .ensures .1, b .pre .few))
           (omega (arith, c .before .before .before .before .before .before .before .before .before .before .put-slots .ensures .1, b .pre .slotted .few)) (omega (arith, c .before .before .before .before .before .before .put-threads .ensures .1, b .pre .working)) (c .before .before .put-counts .ensures .1),

@@ -5,7 +5,7 @@ use native.Mathlib.Omega.{arith}
 use Rattle.limits.specs.Refusals.{refusalNumber, refusalDetail}
 use Rattle.numerals.proofs.PrintLaws.{put-as}
 use Rattle.numerals.specs.Decimal.{decimal}
-use Rattle.listing.specs.Words.{refusedWord}
+use Rattle.numerals.specs.Words.{bytes}
 use Rattle.listing.specs.Lines.{line, refusedLine}
 use Rattle.listing.proofs.PutLaws.{put-four}
 use Rattle.listing.proofs.AnswerLaws.{refused-short}
@@ -49,7 +49,7 @@ returns c =
     let a = c .before .before .before .before .before .before .before .before .before .before .before .before .before .before .before .before .before .before .before .before .before .args in
     let n : c .before .before .before .before .before .before .before .before .before .before .before .before .before .number .result ≡ refusalNumber (a .r) = c .before .before .before .before .before .before .before .before .before .before .before .before .before .number .ensures in
     let d : c .before .before .before .detail .result ≡ refusalDetail (a .r) = c .before .before .before .detail .ensures in (
-      put-as (λ i. line (refusedWord ∷ decimal (n i) ∷ decimal (d i) ∷ [])) (put-four (omega arith) (c .before .before .before .before .before .before .before .before .before .before .before .before .before .before .before .before .before .put-word .ensures) (c .before .before .before .before .before .before .before .before .before .before .before .before .put-short .ensures) (c .before .before .before .before .before .before .before .put-word2 .ensures) (c .before .before .end-number .ensures)),
+      put-as (λ i. line (bytes "refused" ∷ decimal (n i) ∷ decimal (d i) ∷ [])) (put-four (omega arith) (c .before .before .before .before .before .before .before .before .before .before .before .before .before .before .before .before .before .put-word .ensures) (c .before .before .before .before .before .before .before .before .before .before .before .before .put-short .ensures) (c .before .before .before .before .before .before .before .put-word2 .ensures) (c .before .before .end-number .ensures)),
       refused-short (a .r) (omega (arith, c .before .before .before .before .before .before .before .before .before .before .before .before .before .number .ok)) (omega (arith, c .before .before .before .detail .ok)),
     )
 
