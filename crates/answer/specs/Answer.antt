@@ -1,9 +1,9 @@
--- What is printed for a text (document 01, 'Run files': the listing of the run it holds; 'Numbered refusals': refused input prints one line).
+-- What is printed for a text (document 01: `bench` 'reads a run file on standard input and prints a listing'; 'Refused input prints one line').
 -- Assumes nothing.
---   printed      what is printed where a text is answered so and read so
+--   printed      what is printed where the reader gives that answer and the text holds that file
 --   answerText   what is printed for a text, by a reader whose lists have room for every run
---   AnswerSays   the answer, how many bytes were written or 9 where they do not fit, and the lent text afterwards: exactly what is printed and
---                then what stood there, on a refusal as it was; and that 12,288 bytes are room for what is printed for every text
+--   AnswerSays   the answer: how many bytes were written, or 9 where they do not fit; the lent text afterwards: exactly what is printed and then
+--                what stood there, on a refusal as it was; and that 12,288 bytes are room for what is printed for every text
 use mathlib.Core.Path.{_≡_}
 use mathlib.Core.List.{List}
 use Prim.Native.Nat.{ℕ, _≤_}
