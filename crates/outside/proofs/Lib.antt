@@ -1,2 +1,3 @@
 pub mod OutsideLaws
 pub mod TextLaws
+pub mod OnlyLaws

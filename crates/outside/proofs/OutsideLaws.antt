@@ -167,8 +167,3 @@ module _ (threads slots : ℕ) (thread kind : List ℕ) (sample : List ℤ) (sch
             answer = answered ∙ ap runNumbers (sym e ∙ says .outcome);
             lists = λ i. lentOf (says .codes i) (says .samples i) (says .order i) (says .marks i) (says .held i) (ph i) (nu i) (en i);
           }
-
--- one answer, and one state of the lent lists, is told: both are given by equations
-pub run-tells-only : (threads slots : ℕ) (thread kind : List ℕ) (sample : List ℤ) (schedule : List ℕ) (l l′ m′ : Lent) (r q : RunAnswer)
-    → RunTells threads slots thread kind sample schedule l l′ r → RunTells threads slots thread kind sample schedule l m′ q → (r ≡ q) × (l′ ≡ m′)
-run-tells-only threads slots thread kind sample schedule l l′ m′ r q a b = (a .answer ∙ sym (b .answer), a .lists ∙ sym (b .lists))

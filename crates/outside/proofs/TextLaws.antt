@@ -1,5 +1,5 @@
--- What the reader and the writer say, told in numbers: their answers decide what the lent lists hold. Assumes nothing.
-use mathlib.Core.Path.{_≡_, sym, ap, _∙_}
+-- What the reader, the writer and the listing say, told in numbers: their answers decide what the lent lists hold. Assumes nothing.
+use mathlib.Core.Path.{_≡_, ap, _∙_}
 use mathlib.Core.List.{List}
 use Prim.Native.Nat.{ℕ}
 use lib.IntN.{ℤ}
@@ -8,9 +8,11 @@ use Rattle.runfile.specs.declared.Written.{Written}
 use Rattle.runfile.specs.RunText.{runText}
 use Rattle.runfile.specs.Reading.{readOf}
 use Rattle.runfile.specs.Answers.{ReadSays, WriteSays, threadIn, kindIn, sampleIn, scheduleIn, filled, written}
+use Rattle.listing.specs.declared.Listing.{Listing}
+use Rattle.listing.specs.Listing.{ListSays}
 use Rattle.outside.specs.declared.texts.ReadAnswer.{ReadAnswer}
 use Rattle.outside.specs.declared.texts.TextAnswer.{TextAnswer}
-use Rattle.outside.specs.Texts.{readNumbers, ReadTells, writeNumbers, WriteTells}
+use Rattle.outside.specs.Texts.{readNumbers, ReadTells, writeNumbers, WriteTells, listNumbers, ListTells}
 
 pub tells-read : (text thread kind : List ℕ) (sample : List ℤ) (schedule thread′ kind′ : List ℕ) (sample′ : List ℤ) (schedule′ : List ℕ) (q : Read) (r : ReadAnswer)
     → ReadSays text thread kind sample schedule q thread′ kind′ sample′ schedule′ → r ≡ readNumbers q
@@ -32,12 +34,7 @@ tells-written threads slots thread kind sample schedule text text′ q r says e 
       bytes = says .bytes ∙ ap (λ (x : Written). written x (runText threads slots thread kind sample schedule) text) (says .answer);
     }
 
--- one answer, and one state of the lent lists, is told: all are given by equations
-module _ (text thread kind : List ℕ) (sample : List ℤ) (schedule : List ℕ) (r q : ReadAnswer) (thread′ kind′ : List ℕ) (sample′ : List ℤ) (schedule′ thread″ kind″ : List ℕ) (sample″ : List ℤ) (schedule″ : List ℕ) where
-  pub read-tells-only : ReadTells text thread kind sample schedule r thread′ kind′ sample′ schedule′ → ReadTells text thread kind sample schedule q thread″ kind″ sample″ schedule″
-      → (r ≡ q) × (thread′ ≡ thread″) × (kind′ ≡ kind″) × (sample′ ≡ sample″) × (schedule′ ≡ schedule″)
-  read-tells-only a b = (a .answer ∙ sym (b .answer), a .threads ∙ sym (b .threads), a .kinds ∙ sym (b .kinds), a .samples ∙ sym (b .samples), a .steps ∙ sym (b .steps))
-
-pub write-tells-only : (threads slots : ℕ) (thread kind : List ℕ) (sample : List ℤ) (schedule text : List ℕ) (r q : TextAnswer) (text′ text″ : List ℕ)
-    → WriteTells threads slots thread kind sample schedule text r text′ → WriteTells threads slots thread kind sample schedule text q text″ → (r ≡ q) × (text′ ≡ text″)
-write-tells-only threads slots thread kind sample schedule text r q text′ text″ a b = (a .answer ∙ sym (b .answer), a .bytes ∙ sym (b .bytes))
+pub tells-listed : (threads slots : ℕ) (thread kind : List ℕ) (sample : List ℤ) (schedule text text′ : List ℕ) (q : Listing) (r : TextAnswer)
+    → ListSays threads slots thread kind sample schedule text q text′ → r ≡ listNumbers q → ListTells threads slots thread kind sample schedule text r text′
+tells-listed threads slots thread kind sample schedule text text′ q r says e =
+    record { answer = e ∙ ap listNumbers (says .answer); bytes = says .bytes; short = says .short }

@@ -1,6 +1,7 @@
-// Run files for callers in C and Rust: read into lent lists, and written into a lent text.
+// Run files and listings for callers in C and Rust: read into lent lists, and written into a lent text.
 ghost use mathlib.Core.Path.{_≡_};
-ghost use Rattle.outside.specs.Texts.{ReadTells, WriteTells};
+ghost use Rattle.outside.specs.Texts.{ReadTells, WriteTells, ListTells};
+use listing::Listing;
 use runfile::Read;
 use runfile::Written;
 
@@ -76,6 +77,34 @@ pub extern "C" fn pollenloom_write(
             bytes: n,
         },
         Written::Refused(r) => TextAnswer {
+            refusal: crate::number(r),
+            detail: limits::detail(r),
+            bytes: 0,
+        },
+    }
+}
+
+// Writes the listing of a run into the lent text; 12,288 bytes have room for every listing.
+#[no_mangle]
+pub extern "C" fn pollenloom_list(
+    threads: usize,
+    slots: usize,
+    thread: &[u8],
+    kind: &[u8],
+    sample: &[i32],
+    schedule: &[u8],
+    text: &mut [u8],
+) -> TextAnswer
+    ensures { λ r. ⌜ ListTells threads slots (now (thread .entry)) (now (kind .entry)) (now (sample .entry)) (now (schedule .entry)) (now (text .entry)) r (now (text .exit)) ⌝ }
+{
+    let listed = listing::list_run(threads, slots, thread, kind, sample, schedule, text);
+    match listed {
+        Listing::Bytes(n) => TextAnswer {
+            refusal: 0,
+            detail: 0,
+            bytes: n,
+        },
+        Listing::Refused(r) => TextAnswer {
             refusal: crate::number(r),
             detail: limits::detail(r),
             bytes: 0,
