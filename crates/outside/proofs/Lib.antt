@@ -1,3 +1,4 @@
 pub mod OutsideLaws
 pub mod TextLaws
 pub mod OnlyLaws
+pub mod RefusedLaws
