@@ -99,10 +99,10 @@ pub extern "C" fn pollenloom_list(
 {
     let listed = listing::list_run(threads, slots, thread, kind, sample, schedule, text);
     match listed {
-        Listing::Bytes(n) => TextAnswer {
+        Listing::Bytes(count) => TextAnswer {
             refusal: 0,
             detail: 0,
-            bytes: n,
+            bytes: count,
         },
         Listing::Refused(r) => TextAnswer {
             refusal: crate::number(r),
