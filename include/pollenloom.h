@@ -43,6 +43,9 @@ extern "C" {
 #define POLLENLOOM_MOST_STEPS 4096
 #define POLLENLOOM_MOST_BYTES 65536
 
+/* A text of this many bytes has room for the listing of every run. */
+#define POLLENLOOM_LISTING_ROOM 12288
+
 /* The codes of a thread's phase, in the list `phases`. */
 enum pollenloom_phase {
     POLLENLOOM_REST = 0,
@@ -148,6 +151,19 @@ pollenloom_read_answer pollenloom_read(
  * Reading it gives the same lists. Refuses 1 to 9: text has to have room for the whole run file.
  */
 pollenloom_text_answer pollenloom_write(
+    size_t threads, size_t slots,
+    const uint8_t *thread, size_t thread_length,
+    const uint8_t *kind, size_t kind_length,
+    const int32_t *sample, size_t sample_length,
+    const uint8_t *schedule, size_t schedule_length,
+    uint8_t *text, size_t text_length);
+
+/*
+ * Plays the schedule and writes the run's listing to the first `bytes` bytes of text, with no byte 0 at its end; none after these
+ * changes: the reservation count, events, listed order, slots, threads and counts, one line each, as `bench` prints them. Refuses 1
+ * to 9: text has to have room for the whole listing, and POLLENLOOM_LISTING_ROOM bytes always suffice.
+ */
+pollenloom_text_answer pollenloom_list(
     size_t threads, size_t slots,
     const uint8_t *thread, size_t thread_length,
     const uint8_t *kind, size_t kind_length,

@@ -14,7 +14,6 @@ use Rattle.limits.specs.declared.Fit.the-variants.{Pass, Refused as Unfit}
 use Rattle.limits.specs.Refusals.{refusalNumber}
 use Rattle.machine.specs.Bench.{Bench}
 use Rattle.run.specs.declared.Summary.{Summary}
-use Rattle.run.specs.declared.Outcome.{Outcome}
 use Rattle.run.specs.declared.Outcome.the-variants.{Refused}
 use Rattle.run.specs.Run.{runFit, benchAfter, summaryOf, answerOf, outcomeOf, lentAfter}
 use Rattle.runfile.specs.declared.Read.{Read}
@@ -24,8 +23,6 @@ use Rattle.runfile.specs.declared.Written.the-variants.{Bytes, Refused as Unwri
 use Rattle.runfile.specs.RunText.{runText}
 use Rattle.runfile.specs.Reading.{readOf}
 use Rattle.runfile.specs.Answers.{threadIn, kindIn, sampleIn, scheduleIn, filled, writeAnswer, written}
-use Rattle.listing.specs.declared.Listing.{Listing}
-use Rattle.listing.specs.declared.Listing.the-variants.{Refused as Unlisted}
 use Rattle.listing.specs.Listing.{listingText, listingFit, listingAs}
 use Rattle.outside.specs.declared.RunAnswer.{RunAnswer}
 use Rattle.outside.specs.declared.texts.ReadAnswer.{ReadAnswer}

@@ -40,7 +40,7 @@ struct ReadAnswer {
     steps: usize,
 }
 
-/// What `pollenloom_write` returns: `TextAnswer` of the crate `outside`.
+/// What `pollenloom_write` and `pollenloom_list` return: `TextAnswer` of the crate `outside`.
 #[repr(C)]
 struct TextAnswer {
     refusal: usize,
@@ -122,7 +122,25 @@ extern "C" {
         text: *mut u8,
         text_length: usize,
     ) -> TextAnswer;
+
+    fn pollenloom_list(
+        threads: usize,
+        slots: usize,
+        thread: *const u8,
+        thread_length: usize,
+        kind: *const u8,
+        kind_length: usize,
+        sample: *const i32,
+        sample_length: usize,
+        schedule: *const u8,
+        schedule_length: usize,
+        text: *mut u8,
+        text_length: usize,
+    ) -> TextAnswer;
 }
+
+/// A text of this many bytes has room for the listing of every run.
+pub const LISTING_ROOM: usize = 12288;
 
 /// A table of operations: three lists of one length.
 #[derive(Clone, Copy, Debug)]
@@ -305,6 +323,31 @@ pub fn write(threads: usize, slots: usize, table: Table, schedule: &[u8], text: 
     // Each pointer and length is that of one slice; the lent one is exclusive, so it overlaps nothing.
     let a = unsafe {
         pollenloom_write(
+            threads,
+            slots,
+            table.thread.as_ptr(),
+            table.thread.len(),
+            table.kind.as_ptr(),
+            table.kind.len(),
+            table.sample.as_ptr(),
+            table.sample.len(),
+            schedule.as_ptr(),
+            schedule.len(),
+            text.as_mut_ptr(),
+            text.len(),
+        )
+    };
+    if a.refusal != 0 {
+        return Err(Refusal { number: a.refusal, detail: a.detail });
+    }
+    Ok(a.bytes)
+}
+
+/// Plays a schedule, and writes the run's listing into the lent text: the number of bytes. `LISTING_ROOM` bytes always suffice.
+pub fn list(threads: usize, slots: usize, table: Table, schedule: &[u8], text: &mut [u8]) -> Result<usize, Refusal> {
+    // Each pointer and length is that of one slice; the lent one is exclusive, so it overlaps nothing.
+    let a = unsafe {
+        pollenloom_list(
             threads,
             slots,
             table.thread.as_ptr(),
