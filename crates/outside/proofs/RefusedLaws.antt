@@ -1,5 +1,5 @@
--- A refused call writes nothing: where an exported function's answer has a refusal other than 0, each lent list is as it was. And no refusal is
--- told as 0, since the document's numbers begin with 1; so a caller who tests `refusal` sees all refusals and nothing else. Assumes nothing.
+-- A refused call writes nothing: where an exported function's answer has a refusal other than 0, each lent list is as it was. And each refusal is
+-- told by the document's number, never by 0, since these numbers begin with 1; so a caller who tests `refusal` misses none. Assumes nothing.
 use mathlib.Core.Path.{_≡_, refl, ap, _∙_}
 use mathlib.Core.Logic.{_≢_}
 use mathlib.Core.List.{List}
@@ -45,6 +45,13 @@ number-positive (Event i) = omega arith
 number-positive (Line k) = omega arith
 number-positive Text = omega arith
 
+-- a number that tells a refusal
+abbrev pub Told : ℕ → Refusal → Type 0
+Told n x = (n ≡ refusalNumber x) × (0 < n)
+
+is-told : (n : ℕ) (x : Refusal) → n ≡ refusalNumber x → Told n x
+is-told n x e = (e, rw e (number-positive x))
+
 -- ---- what is told with a refusal other than 0 is no accepted answer, and so leaves a list as it was
 
 run-leaves : (f : Fit) (s : Summary) (B : Bench) (l : Lent) → runNumbers (answerOf f s) .refusal ≢ 0 → lentThen f B l ≡ l
@@ -73,8 +80,8 @@ module _ (threads slots : ℕ) (thread kind : List ℕ) (sample : List ℤ) (sch
       ∙ run-leaves (runFit threads slots thread kind sample schedule (roomIn l)) (summaryOf threads slots thread kind sample schedule) (benchAfter threads slots thread kind sample schedule) l
       (λ z. nz (ap (λ (a : RunAnswer). a .refusal) (tells .answer) ∙ z))
 
-  pub run-refused-told : (x : Refusal) → outcomeOf threads slots thread kind sample schedule (roomIn l) ≡ Refused x → 0 < r .refusal
-  run-refused-told x e = rw (tells .answer ∙ ap runNumbers e) (number-positive x)
+  pub run-refused-told : (x : Refusal) → outcomeOf threads slots thread kind sample schedule (roomIn l) ≡ Refused x → Told (r .refusal) x
+  run-refused-told x e = is-told (r .refusal) x (ap (λ (a : RunAnswer). a .refusal) (tells .answer ∙ ap runNumbers e))
 
 -- ---- the reader
 
@@ -90,8 +97,8 @@ module _ (text thread kind : List ℕ) (sample : List ℤ) (schedule : List ℕ)
         tells .steps ∙ read-leaves q (scheduleIn (readOf text)) schedule told,
       )
 
-  pub read-refused-told : (x : Refusal) → readInto text thread kind sample schedule ≡ Unread x → 0 < r .refusal
-  read-refused-told x e = rw (tells .answer ∙ ap readNumbers e) (number-positive x)
+  pub read-refused-told : (x : Refusal) → readInto text thread kind sample schedule ≡ Unread x → Told (r .refusal) x
+  read-refused-told x e = is-told (r .refusal) x (ap (λ (a : ReadAnswer). a .refusal) (tells .answer ∙ ap readNumbers e))
 
 -- ---- the writer and the listing
 
@@ -103,8 +110,8 @@ module _ (threads slots : ℕ) (thread kind : List ℕ) (sample : List ℤ) (sch
       (λ z. nz (ap (λ (a : TextAnswer). a .refusal) (tells .answer) ∙ z))
 
   pub write-refused-told : WriteTells threads slots thread kind sample schedule text r text′
-      → (x : Refusal) → writeAnswer (length text) threads slots thread kind sample schedule ≡ Unwritten x → 0 < r .refusal
-  write-refused-told tells x e = rw (tells .answer ∙ ap writeNumbers e) (number-positive x)
+      → (x : Refusal) → writeAnswer (length text) threads slots thread kind sample schedule ≡ Unwritten x → Told (r .refusal) x
+  write-refused-told tells x e = is-told (r .refusal) x (ap (λ (a : TextAnswer). a .refusal) (tells .answer ∙ ap writeNumbers e))
 
   pub list-refused-leaves : ListTells threads slots thread kind sample schedule text r text′ → r .refusal ≢ 0 → text′ ≡ text
   list-refused-leaves tells nz =
@@ -114,6 +121,6 @@ module _ (threads slots : ℕ) (thread kind : List ℕ) (sample : List ℤ) (sch
       (λ z. nz (ap (λ (a : TextAnswer). a .refusal) (tells .answer) ∙ z))
 
   pub list-refused-told : ListTells threads slots thread kind sample schedule text r text′
-      → (x : Refusal) → listingFit threads slots thread kind sample schedule (length text) ≡ Unfit x → 0 < r .refusal
+      → (x : Refusal) → listingFit threads slots thread kind sample schedule (length text) ≡ Unfit x → Told (r .refusal) x
   list-refused-told tells x e =
-      rw (tells .answer ∙ ap (λ (f : Fit). listNumbers (listingAs f (length (listingText threads slots thread kind sample schedule)))) e) (number-positive x)
+      is-told (r .refusal) x (ap (λ (a : TextAnswer). a .refusal) (tells .answer ∙ ap (λ (f : Fit). listNumbers (listingAs f (length (listingText threads slots thread kind sample schedule)))) e))
