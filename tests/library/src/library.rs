@@ -19,7 +19,10 @@ pub struct Maker {
 }
 
 /// All of them.
-pub const MAKERS: [Maker; 1] = [Maker { name: "write", library: outside::write, second: second::runfile::write }];
+pub const MAKERS: [Maker; 2] = [
+    Maker { name: "write", library: outside::write, second: second::runfile::write },
+    Maker { name: "list", library: outside::list, second: second::listing::list },
+];
 
 /// The library with a fault planted behind its calls, or none.
 #[derive(Clone, Copy)]
