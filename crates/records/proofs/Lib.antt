@@ -1,3 +1,2 @@
 pub mod SayLaws
 pub mod EntryLaws
-pub mod OnlyLaws

@@ -27,7 +27,9 @@ use Rattle.machine.proofs.ChainLaws.{OrderedAt, ordered-played}
 use Rattle.run.specs.declared.Summary.{Summary}
 use Rattle.run.specs.declared.Outcome.{Outcome}
 use Rattle.run.specs.declared.Outcome.the-variants.{Ran, Refused}
-use Rattle.run.specs.Run.{roomOf, hasRoom, runFit, summaryOf, answerOf}
+use Rattle.run.specs.Run.{roomOf, hasRoom, runFit, summaryOf, answerOf, lentAfter}
+use Rattle.listing.specs.declared.Listing.the-variants.{Refused as Unlisted}
+use Rattle.listing.specs.Listing.{listingAs}
 use Rattle.runfile.specs.Answers.{over}
 use Rattle.theorems.specs.Demand.{Linearized}
 use Rattle.theorems.specs.Calls.{Input, Lists, Runs, fit, table, bench, summary, shown, history}
@@ -46,6 +48,11 @@ refused-unfit (Unfit q) a r e = ap Unfit (cc)
 then-pass : (f g : Fit) → andThen f g ≡ Pass → f ≡ Pass
 then-pass Pass g e = refl
 then-pass (Unfit r) g e = clash (cc)
+
+-- a listing that is refused leaves the text that was lent
+pub left-text : (f : Fit) (n : ℕ) (x : Refusal) (w l : List ℕ) → listingAs f n ≡ Unlisted x → lentAfter f w l ≡ l
+left-text Pass n x w l e = clash (cc)
+left-text (Unfit q) n x w l e = refl
 
 -- lists are the same if each of the six is
 same-six : {l m : Lists} → m .codes ≡ l .codes → m .samples ≡ l .samples → m .order ≡ l .order → m .marks ≡ l .marks → m .held ≡ l .held → m .records ≡ l .records → m ≡ l

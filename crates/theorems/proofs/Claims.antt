@@ -1,15 +1,17 @@
 -- The claims, in one place: demands 1, 2 and 3, sentence by sentence, each about what a public function answers and writes. Assumes nothing.
 -- Every public function is total and asks nothing of its caller: what it says of every input is its contract. `Runs` is that of `records::run`,
--- `judged` that of `judge::judge`, `ReadSays` that of `reader::read_run`, `WriteSays` that of `writer::write_run`.
+-- `judged` that of `judge::judge`, `ReadSays` that of `reader::read_run`, `WriteSays` that of `writer::write_run`, `ListSays` that of
+-- `listing::list_run`, `AnswerSays` that of `answer::answer`, which gives the program `bench` what it prints.
 --   what-fits, what-does-not   demand 1: a run ends in its result or in the refusal that its input gets
---   refused-leaves-all         demand 1: a refused run writes nothing into memory that was lent; likewise `refused-read`, `refused-write`
+--   refused-leaves-all         demand 1: a refused run writes nothing into memory that was lent; likewise `refused-read`, `refused-write`, `refused-list`
+--   prints-whole               demand 1: for every text `bench` has its listing or the line of its refusal to print; which, `prints-listing`, `prints-refusal` say
 --   run-exact                  demand 2: slots, phases, counts and history are those of the document's steps
 --   runs-balance               stores = finds + filled slots
 --   accepted-exactly           demand 2: an order is accepted exactly if it is a linearization
 --   same-bytes, same-lists     demand 2: run files read and write back
 --   order-of-a-run             demand 3, of what the run wrote
 --   judge-passes-runs          the judge's verdict on what a run wrote is 0
---   run-one, judge-one, read-one, write-one   two results that meet a contract are the same
+--   run-one, judge-one, read-one, write-one, list-one, print-one   two results that meet a contract are the same
 --   worked-runs                the table of document 01, A to I
 use mathlib.Core.Path.{_≡_, sym, _∙_}
 use mathlib.Core.List.{List}
@@ -34,9 +36,17 @@ use Rattle.runfile.specs.declared.Read.{Read}
 use Rattle.runfile.specs.declared.Read.the-variants.{Run, Refused as Unread}
 use Rattle.runfile.specs.declared.Written.{Written}
 use Rattle.runfile.specs.declared.Written.the-variants.{Bytes, Refused as Unwritten}
-use Rattle.runfile.specs.Answers.{over, ReadSays, WriteSays}
+use Rattle.runfile.specs.Reading.{readOf}
+use Rattle.runfile.specs.Answers.{over, readAnswer, threadIn, kindIn, sampleIn, scheduleIn, ReadSays, WriteSays}
 use Rattle.runfile.specs.RunText.{Fitting}
 use Rattle.runfile.proofs.RunFiles as file
+use Rattle.listing.specs.declared.Listing.{Listing}
+use Rattle.listing.specs.declared.Listing.the-variants.{Bytes as Listed, Refused as Unlisted}
+use Rattle.listing.specs.Lines.{refusedLine}
+use Rattle.listing.specs.Listing.{listingText, listingFit, ListSays}
+use Rattle.listing.proofs.OnlyLaws.{list-only}
+use Rattle.answer.specs.Answer.{answerText, AnswerSays}
+use Rattle.answer.proofs.AnswerLaws.{answer-only, answer-fits, answer-refused, answer-run}
 use Rattle.theorems.specs.Demand.{Linearized}
 use Rattle.theorems.specs.Calls.{Input, Lists, Runs, fit, table, bench, summary, shown, history}
 use Rattle.theorems.specs.Worked.{Worked}
@@ -131,6 +141,38 @@ read-one a b = file.read-only a b
 pub write-one : {threads slots : ℕ} {thread kind : List ℕ} {sample : List ℤ} {schedule text₀ text text′ : List ℕ} {r r′ : Written}
     → WriteSays threads slots thread kind sample schedule text₀ r text → WriteSays threads slots thread kind sample schedule text₀ r′ text′ → (r ≡ r′) × (text ≡ text′)
 write-one a b = file.write-only a b
+
+-- ---- the listing: `listing::list_run`, called with a run's input and the text `text`, answered r and left text′
+
+module _ (threads slots : ℕ) (thread kind : List ℕ) (sample : List ℤ) (schedule text : List ℕ) (r : Listing) (text′ : List ℕ)
+    (says : ListSays threads slots thread kind sample schedule text r text′) where
+  -- 'A refused call writes nothing into memory that was lent'
+  pub refused-list : (x : Refusal) → r ≡ Unlisted x → text′ ≡ text
+  refused-list x e =
+      let w = listingText threads slots thread kind sample schedule in
+      says .bytes ∙ law.left-text (listingFit threads slots thread kind sample schedule (length text)) (length w) x w text (sym (says .answer) ∙ e)
+
+  pub list-one : (q : Listing) (other : List ℕ) → ListSays threads slots thread kind sample schedule text q other → (r ≡ q) × (text′ ≡ other)
+  list-one q other a = list-only threads slots thread kind sample schedule text r q text′ other says a
+
+-- ---- the program: `answer::answer`, called with the text that was read and room for what is printed, answered r and left out′
+
+module _ (text out : List ℕ) (r : Listing) (out′ : List ℕ) (says : AnswerSays text out r out′) where
+  -- 'Every .. run file .. ends in a result or a numbered refusal': into 12,288 bytes all that is to be printed is written
+  pub prints-whole : 12288 ≤ length out → (r ≡ Listed (length (answerText text))) × (take (length (answerText text)) out′ ≡ answerText text)
+  prints-whole room = answer-fits text out r out′ room says
+
+  pub print-one : (q : Listing) (other : List ℕ) → AnswerSays text out q other → (r ≡ q) × (out′ ≡ other)
+  print-one q other a = answer-only text out r q out′ other says a
+
+-- a text that the reader accepts prints the listing of what it holds
+pub prints-listing : (text : List ℕ) (threads slots o t : ℕ) → readAnswer text 128 128 128 4096 ≡ Run threads slots o t
+    → answerText text ≡ listingText threads slots (threadIn (readOf text)) (kindIn (readOf text)) (sampleIn (readOf text)) (scheduleIn (readOf text))
+prints-listing text threads slots o t e = answer-run text threads slots o t e
+
+-- 'Refused input prints one line: `refused`, number, detail'
+pub prints-refusal : (text : List ℕ) (x : Refusal) → readAnswer text 128 128 128 4096 ≡ Unread x → answerText text ≡ refusedLine x
+prints-refusal text x e = answer-refused text x e
 
 -- ---- the worked runs
 
