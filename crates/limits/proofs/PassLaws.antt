@@ -111,7 +111,7 @@ module _ (n t k : ℕ) (x : ℤ) (e : unfit n t k x ≡ false) where
       go (negsuc y) false q = absurd (let z : _≡_ {A = ℕ} 0 1 = cc in omega arith)
 
 -- a search that meets nothing ends nowhere
-nowhere-back : (p : ℕ → Bool) (k n : ℕ) → ((i : ℕ) → k ≤ i → i < k + n → p i ≡ false) → lowestFrom p k n ≡ Nowhere
+pub nowhere-back : (p : ℕ → Bool) (k n : ℕ) → ((i : ℕ) → k ≤ i → i < k + n → p i ≡ false) → lowestFrom p k n ≡ Nowhere
 unfolding lowestFrom
 nowhere-back p k zero f = refl
 nowhere-back p k (suc n) f = rw (f k (omega arith) (omega arith)) (nowhere-back p (suc k) n (λ i lo hi. f i (omega arith) (omega arith)))

@@ -1,5 +1,6 @@
 -- Numbered refusals (document 01): their numbers and details, and which of 1 to 8 an input gets. Assumes nothing.
---   refusalNumber, refusalDetail   the document's number and detail of each refusal
+--   refusalTold                    the document's number and detail of each refusal, a row of its table each
+--   refusalNumber, refusalDetail   the one and the other
 --   unless, unlessAt, andThen      tests in turn: the first that fails gives its refusal
 --   scheduleRefusal                6, 7 and 8, of a schedule for a table that passes 1 to 5
 --   inputRefusal                   1 to 8, of a run's input
@@ -19,34 +20,26 @@ use Rattle.limits.specs.declared.Fit.the-variants.{Pass, Refused}
 use Rattle.limits.specs.Lists.{lowest}
 use Rattle.limits.specs.Operations.{putsIn}
 
-abbrev pub refusalNumber : Refusal → ℕ
-refusalNumber Threads = 1
-refusalNumber Slots = 2
-refusalNumber Lengths = 3
-refusalNumber Operations = 4
-refusalNumber (Operation o) = 5
-refusalNumber Puts = 6
-refusalNumber Schedule = 7
-refusalNumber (Entry i) = 8
-refusalNumber Room = 9
-refusalNumber (Event i) = 10
-refusalNumber (Line k) = 11
-refusalNumber Text = 12
+-- number and detail: operations and positions count from 0, lines from 1; where the document gives no place, 0
+abbrev pub refusalTold : Refusal → ℕ × ℕ
+refusalTold Threads = (1, 0)
+refusalTold Slots = (2, 0)
+refusalTold Lengths = (3, 0)
+refusalTold Operations = (4, 0)
+refusalTold (Operation o) = (5, o)
+refusalTold Puts = (6, 0)
+refusalTold Schedule = (7, 0)
+refusalTold (Entry i) = (8, i)
+refusalTold Room = (9, 0)
+refusalTold (Event i) = (10, i)
+refusalTold (Line k) = (11, k)
+refusalTold Text = (12, 0)
 
--- operations and positions count from 0, lines from 1; where the document gives no place, 0
+abbrev pub refusalNumber : Refusal → ℕ
+refusalNumber r = refusalTold r .0
+
 abbrev pub refusalDetail : Refusal → ℕ
-refusalDetail Threads = 0
-refusalDetail Slots = 0
-refusalDetail Lengths = 0
-refusalDetail Operations = 0
-refusalDetail (Operation o) = o
-refusalDetail Puts = 0
-refusalDetail Schedule = 0
-refusalDetail (Entry i) = i
-refusalDetail Room = 0
-refusalDetail (Event i) = i
-refusalDetail (Line k) = k
-refusalDetail Text = 0
+refusalDetail r = refusalTold r .1
 
 -- the refusal unless the test holds, and what comes after it if it does
 abbrev pub unless : Bool → Refusal → Fit → Fit

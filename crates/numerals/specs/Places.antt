@@ -1,4 +1,5 @@
--- Text put into a lent list of bytes, from a place on. Assumes nothing.
+-- Nothing in this file has to be believed by a reader of the claims: what this crate's printers answer, text put into a lent list of bytes from a
+-- place on. Assumes nothing.
 --   after at n          the place n bytes after at; no place is past the largest number of 64 bits, where no list reaches
 --   Put out at w r new  new is out with the bytes w stored from at on, and r the place after them. A byte that would stand past the end is
 --                       stored nowhere (`sets`), and counted in r all the same: so r, put from 0 on, is the room that w needs

@@ -1,4 +1,5 @@
--- The listed order as event codes and rows of operation numbers give it (document 01, 'History, order, and what a run writes'). Assumes nothing.
+-- Nothing in this file has to be believed by a reader of the claims: what `list_order` answers, from event codes and rows of operation numbers.
+-- Its result is the listed order of Order.antt (document 01, 'History, order, and what a run writes'). Assumes nothing.
 --   bare            the event that a code gives, without its sample: 'precedes' asks for no more
 --   pairs           the finds: each take with the put beside it
 --   listing         the listed order of the history that the codes give

@@ -7,18 +7,10 @@ use native.Mathlib.Omega.{arith}
 use native.Mathlib.Numerals.{add-one}
 use lib.Dec.{eqb}
 use lib.IntN.{ℤ}
-use lib.Signed.{mag}
 use lib.ListN.{length, getD, set, take, drop, drop-of-length-le, length-append, length-drop, length-set}
 use lib.Seq.{drop-cons, take-suc-set, set-at}
-use mir.Facts.{toZ-ofZ}
-use mir.Syntax.{w32}
-use mir.Val.{toZ, ofZ}
 use Rattle.run.specs.declared.finish.Others.{Others}
 use Rattle.run.specs.FinalTwin.{tab, gathered, added, addedIf}
-
--- a sample of 32 bits comes back from its bits
-pub back32 : (z : ℤ) → mag z < 2 ^ 31 → toZ w32 (ofZ w32 z) ≡ z
-back32 z p = toZ-ofZ (record { sfits = p })
 
 module _ {A : Type 0} where
   pub length-tab : (n : ℕ) (f : ℕ → A) → length (tab n f) ≡ n

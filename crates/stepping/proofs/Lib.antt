@@ -1,2 +1,1 @@
-pub mod BitsLaws
 pub mod TwinLaws

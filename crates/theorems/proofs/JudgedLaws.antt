@@ -16,6 +16,7 @@ use Rattle.limits.specs.declared.Place.{Place}
 use Rattle.limits.specs.declared.Place.the-variants.{At, Nowhere}
 use Rattle.limits.specs.Lists.{lowestFrom, lowest}
 use Rattle.limits.specs.Operations.{Table, tableOf, putsIn}
+use Rattle.limits.proofs.PassLaws.{nowhere-back}
 use Rattle.limits.specs.Refusals.{unless, unlessAt, within, together, unfitAt, tableRefusal}
 use Rattle.history.specs.History.{codeOf, beside}
 use Rattle.history.proofs.ListLaws.{clash}
@@ -30,12 +31,6 @@ use Rattle.machine.proofs.ChainLaws.{OrderedAt}
 use Rattle.theorems.proofs.OrderLaws.{run-stands, run-verdict}
 
 -- ---- tests that pass
-
--- a search that meets nothing ends nowhere
-lowest-none : (p : ℕ → Bool) (k n : ℕ) → ((i : ℕ) → k ≤ i → i < k + n → p i ≡ false) → lowestFrom p k n ≡ Nowhere
-unfolding lowestFrom
-lowest-none p k zero f = refl
-lowest-none p k (suc n) f = rw (f k (omega arith) (omega arith)) (lowest-none p (suc k) n (λ i lo hi. f i (omega arith) (omega arith)))
 
 holds-not : {P : Type 0} (d : Dec P) → P → fails d ≡ false
 holds-not (yes _) p = refl
@@ -62,7 +57,7 @@ module _ (threads slots : ℕ) (thread kind : List ℕ) (sample : List ℤ) (B :
   -- each event can stand
   events-pass : eventRefusal thread kind sample (codes B) (samples B) ≡ Pass
   unfolding eventRefusal
-  events-pass = rw (lowest-none (λ j. fails (stands? (tableOf thread kind sample) (codes B) (samples B) j)) 0 (length (codes B))
+  events-pass = rw (nowhere-back (λ j. fails (stands? (tableOf thread kind sample) (codes B) (samples B) j)) 0 (length (codes B))
       (λ j lo hi. holds-not (stands? (tableOf thread kind sample) (codes B) (samples B) j) (run-stands (tableOf thread kind sample) threads slots B r i j (omega arith))))
 
   pub run-judged : tableRefusal threads thread kind sample ≡ Pass → judged threads thread kind sample (codes B) (samples B) (order B) ≡ Says Linear

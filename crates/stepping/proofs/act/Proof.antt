@@ -5,7 +5,7 @@ use lib.IntN.{ℤ}
 use lib.ListN.{set}
 use lib.Signed.{mag}
 use Rattle.stepping.specs.Twins.{acted}
-use Rattle.stepping.proofs.BitsLaws.{back32}
+use Rattle.limits.proofs.LimitsLaws.{back32}
 use Rattle.stepping.proofs.TwinLaws.{turn-eq, acted-as}
 use borrow.Author.Needs.{needs}
 use Rattle.stepping.proofs.act.Statement.{statement}

@@ -4,7 +4,7 @@ use Prim.Native.Nat.{_<_, _^_}
 use lib.IntN.{pos}
 use lib.Signed.{mag}
 use Rattle.machine.specs.Shown.{phaseNumber}
-use Rattle.run.proofs.FinalLaws.{back32}
+use Rattle.limits.proofs.LimitsLaws.{back32}
 use borrow.Author.Needs.{needs}
 use Rattle.outside.proofs.records.number.Statement.{statement}
 use Rattle.outside.proofs.records.number.Tie as tie

@@ -7,7 +7,8 @@ use lib.IntN.{ℤ, pos}
 use lib.ListN.{length, set, drop, length-set}
 use borrow.Author.Needs.{needs}
 use Rattle.run.specs.FinalTwin.{tab}
-use Rattle.run.proofs.FinalLaws.{tab-next, back32}
+use Rattle.limits.proofs.LimitsLaws.{back32}
+use Rattle.run.proofs.FinalLaws.{tab-next}
 use Rattle.outside.specs.RecordTwin.{numberAt}
 use Rattle.outside.proofs.records.show_numbers.Statement.{statement}
 use Rattle.outside.proofs.records.show_numbers.Tie as tie

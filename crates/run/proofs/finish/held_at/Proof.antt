@@ -3,7 +3,7 @@ use borrow.Author.Tests.{lt-leb, le-leb, eq-eqb, ne-eqb}
 use mathlib.Core.Path.{_≡_, refl, sym, ap, _∙_}
 use lib.IntN.{pos}
 use lib.ListN.{getD, List·getD-eq-default}
-use Rattle.run.proofs.FinalLaws.{back32}
+use Rattle.limits.proofs.LimitsLaws.{back32}
 use borrow.Author.Needs.{needs}
 use Rattle.run.proofs.finish.held_at.Statement.{statement}
 use Rattle.run.proofs.finish.held_at.Tie as tie

@@ -4,7 +4,7 @@ use Prim.Native.Nat.{_<_, _^_}
 use lib.Signed.{mag}
 use Rattle.machine.specs.declared.Phase.the-variants.{Holding}
 use Rattle.faithful.specs.Views.{phaseOf}
-use Rattle.run.proofs.FinalLaws.{back32}
+use Rattle.limits.proofs.LimitsLaws.{back32}
 use borrow.Author.Needs.{needs}
 use Rattle.run.proofs.finish.phase_of.Statement.{statement}
 use Rattle.run.proofs.finish.phase_of.Tie as tie

@@ -7,7 +7,8 @@ use lib.IntN.{ℤ, pos}
 use lib.ListN.{length, getD, set, drop, length-set}
 use borrow.Author.Needs.{needs}
 use Rattle.run.specs.FinalTwin.{tab, heldAt}
-use Rattle.run.proofs.FinalLaws.{tab-next, back32}
+use Rattle.limits.proofs.LimitsLaws.{back32}
+use Rattle.run.proofs.FinalLaws.{tab-next}
 use borrow.Author.Needs.{needs}
 use Rattle.run.proofs.finish.show_held.Statement.{statement}
 use Rattle.run.proofs.finish.show_held.Tie as tie

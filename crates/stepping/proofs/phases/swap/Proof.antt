@@ -3,7 +3,7 @@ use borrow.Author.Tests.{lt-ltb, le-ltb, eq-eqb, ne-eqb}
 use mathlib.Core.Path.{_≡_, refl, sym, ap, _∙_}
 use Prim.Native.Nat.{ℕ, _+_, _*_, _≤_, _<_}
 use Rattle.stepping.specs.Twins.{swappedMoved, swappedMarks, swappedList, getIn, setIn}
-use Rattle.stepping.proofs.BitsLaws.{back32}
+use Rattle.limits.proofs.LimitsLaws.{back32}
 use borrow.Author.Needs.{needs}
 use Rattle.stepping.proofs.phases.swap.Statement.{statement}
 use Rattle.stepping.proofs.phases.swap.Tie as tie
