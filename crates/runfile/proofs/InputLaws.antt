@@ -104,7 +104,7 @@ GoodOps threads (t ∷ thread) [] sample = ⊥
 GoodOps threads (t ∷ thread) (k ∷ kind) [] = ⊥
 GoodOps threads (t ∷ thread) (k ∷ kind) (x ∷ sample) = (unfit threads t k x ≡ false) × GoodOps threads thread kind sample
 
-good-ops : (threads : ℕ) (thread kind : List ℕ) (sample : List ℤ) → length kind ≡ length thread → length sample ≡ length thread
+pub good-ops : (threads : ℕ) (thread kind : List ℕ) (sample : List ℤ) → length kind ≡ length thread → length sample ≡ length thread
     → ((i : ℕ) → i < length thread → unfitAt threads thread kind sample i ≡ false) → GoodOps threads thread kind sample
 good-ops threads [] [] [] a b h = tt
 good-ops threads [] [] (x ∷ sample) a b h = absurd (omega arith)

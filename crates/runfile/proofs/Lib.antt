@@ -5,4 +5,9 @@ pub mod InputLaws
 pub mod FitLaws
 pub mod TextLaws
 pub mod Round
+pub mod HoldLaws
+pub mod LinesLaws
+pub mod PastLaws
+pub mod StartLaws
+pub mod WrongLaws
 pub mod RunFiles

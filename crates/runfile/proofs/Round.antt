@@ -35,14 +35,14 @@ use Rattle.runfile.proofs.TextLaws.{fit-thread, AllFit}
 pub pair-line : (w : List ℕ) → Free 9 w → (n : ℕ) → n ≤ 255 → numberAfter w (parts 9 (pairLine w n)) ≡ N.Is n
 pair-line w free n h = number-after w free (decimal n) ∙ number-round n h
 
-free-pair : (w : List ℕ) → Free 10 w → (n : ℕ) → Free 10 (pairLine w n)
+pub free-pair : (w : List ℕ) → Free 10 w → (n : ℕ) → Free 10 (pairLine w n)
 free-pair w free n = free-append 10 w (9 ∷ decimal n) free (refl, free-decimal 10 n (omega arith))
 
 step-none : (t : ℕ) → operationOf (parts 9 (pairLine stepWord t)) ≡ O.Bad
 step-none t = ap operationOf (parts-append 9 stepWord (decimal t) (refl, (refl, (refl, (refl, tt)))) ∙ ap (λ (ps : List (List ℕ)). stepWord ∷ ps) (parts-free 9 (decimal t) (free-decimal 9 t (omega arith))))
 
 -- an operation that refusal 5 does not name is a put, or a take with sample 0
-kind-of : (threads t k : ℕ) (x : ℤ) → unfit threads t k x ≡ false → eqb k 1 ≡ false → (k ≡ 2) × (x ≡ pos 0)
+pub kind-of : (threads t k : ℕ) (x : ℤ) → unfit threads t k x ≡ false → eqb k 1 ≡ false → (k ≡ 2) × (x ≡ pos 0)
 kind-of threads t k x e d = go (leb threads t) (eqb k 1) (eqb k 2) (isZero x) refl refl d e
   where
     zero-is : (y : ℤ) → isZero y ≡ true → y ≡ pos 0
@@ -81,7 +81,7 @@ op-line threads t k x h g f = go (eqb k 1) refl
         sym (op-take (parts 9 (pairLine takeWord t)) t (pair-line takeWord (refl, (refl, (refl, (refl, tt)))) t (omega (arith, fit-thread threads t k x g))))
         ∙ (λ i. O.Is t (sym (w .0) i) (sym (w .1) i))
 
-free-op : (t k : ℕ) (x : ℤ) → Free 10 (opLine t k x)
+pub free-op : (t k : ℕ) (x : ℤ) → Free 10 (opLine t k x)
 free-op t k x = go (eqb k 1)
   where
     go : (b : Bool) → Free 10 (cond b (putLine t x) (pairLine takeWord t))
@@ -178,15 +178,15 @@ passed-fits {threads} {slots} {thread} {kind} {sample} {schedule} p f =
     }
 
 -- ---- writing what was read: one line
-abbrev PairIs : List ℕ → Number → List ℕ → Type 0
+abbrev pub PairIs : List ℕ → Number → List ℕ → Type 0
 PairIs w (N.Is n) l = (pairLine w n ≡ l) × (n ≤ 255)
 PairIs w N.Bad l = Unit {0}
 
-abbrev OpIs : Operation → List ℕ → Type 0
+abbrev pub OpIs : Operation → List ℕ → Type 0
 OpIs (O.Is t k x) l = (opLine t k x ≡ l) × ((unfit 256 t k x ≡ false) × SFits w32 x)
 OpIs O.Bad l = Unit {0}
 
-pair-is : (w l : List ℕ) → PairIs w (numberAfter w (parts 9 l)) l
+pub pair-is : (w l : List ℕ) → PairIs w (numberAfter w (parts 9 l)) l
 pair-is w l = subst (PairIs w (numberAfter w (parts 9 l))) (together-parts 9 l) (go (parts 9 l))
   where
     number : (f n : List ℕ) (r : Number) → f ≡ w → NumberIs r n → PairIs w r (fields f n)
@@ -199,7 +199,7 @@ pair-is w l = subst (PairIs w (numberAfter w (parts 9 l))) (together-parts 9 l) 
     go (f ∷ n ∷ []) = cond-elim (λ r. PairIs w r (fields f n)) (same f w) (numberOf n) N.Bad (λ e. number f n (numberOf n) (same-is f w e) (number-is n)) (λ _. tt)
     go (f ∷ n ∷ m ∷ ps) = tt
 
-op-is : (l : List ℕ) → OpIs (operationOf (parts 9 l)) l
+pub op-is : (l : List ℕ) → OpIs (operationOf (parts 9 l)) l
 op-is l = subst (OpIs (operationOf (parts 9 l))) (together-parts 9 l) (go (parts 9 l))
   where
     taken : (f n : List ℕ) (r : Number) → f ≡ takeWord → NumberIs r n → OpIs (takeOf r) (fields f n)

@@ -3,13 +3,16 @@
 --   read-only, write-only   two answers that meet a contract are equal, and so are the lists that they leave
 --   read-write              reading what was written gives the same numbers and the same lists
 --   write-read              writing what was read gives the same bytes
---   IsRun                   the text is that of numbers which a run file can hold
+--   read-holds, holds-read  what is read is what the text holds, told without reading it (specs/Wrong.antt), and the other way round
+--   holds-one               a text holds one thing only
+--   read-run, run-read      so a run's input is read exactly where the text is that of what a run file can hold,
 --   wrong-none, read-or-wrong
---                           a text has a line that is not as written exactly where it is the text of no such run
+--                           a text has a wrong line exactly where it is the text of no run,
+--   read-wrong, wrong-one, wrong-read
+--                           and the line given is the first that is not as written, of which there is one only
 use mathlib.Core.Path.{_≡_, refl, sym, _∙_, ap}
 use mathlib.Core.Bool.{Bool, true, false, cond}
 use mathlib.Core.List.{List}
-use mathlib.Core.Logic.{_⊎_, inl, inr}
 use Prim.Native.Nat.{ℕ, _≤_}
 use native.Mathlib.Omega.{arith}
 use lib.Dec.{leb}
@@ -32,7 +35,9 @@ use Rattle.runfile.specs.RunText.{Fitting}
 use Rattle.runfile.proofs.InputLaws.{passed}
 use Rattle.runfile.proofs.FitLaws.{all-room, fit-room}
 use Rattle.runfile.proofs.TextLaws.{all-fit, text-short}
-use Rattle.runfile.proofs.Round.{Fits, read-text, passed-fits, text-read, read-fits}
+use Rattle.runfile.proofs.Round.{read-text, passed-fits, text-read}
+pub use Rattle.runfile.proofs.HoldLaws.{read-run, run-read, wrong-none, read-or-wrong}
+pub use Rattle.runfile.proofs.WrongLaws.{read-wrong, wrong-one, wrong-read, read-holds, holds-read, holds-one}
 
 -- ---- one answer only, since each part of a contract is an equation
 pub read-only : {s thread₀ kind₀ : List ℕ} {sample₀ : List ℤ} {schedule₀ : List ℕ} {r r′ : Read} {thread thread′ kind kind′ : List ℕ} {sample sample′ : List ℤ} {schedule schedule′ : List ℕ}
@@ -172,31 +177,3 @@ write-read {s} {thread₀} {kind₀} {sample₀} {schedule₀} {n} {m} {o} {t} {
     let input : inputRefusal n m (take o thread) (take o kind) (take o sample) (take t schedule) ≡ Pass = (λ i. inputRefusal n m (lt i) (lk i) (lx i) (ls i)) ∙ q .0 in
     let e : r ≡ Wr.Bytes (length s) = w .answer ∙ rw (input, whole, le-leb (length s) (length text₀) h) in
     (e, w .bytes ∙ (λ i. written (e i) (whole i) text₀))
-
--- ---- refusal 11 exactly where no run has the text
--- a text is as written where it is the text of numbers that a run file can hold
-pub record IsRun (s : List ℕ) : Type 0 where
-  pub threads : ℕ
-  pub slots : ℕ
-  pub thread : List ℕ
-  pub kind : List ℕ
-  pub sample : List ℤ
-  pub schedule : List ℕ
-  pub fits : Fits threads slots thread kind sample schedule
-  pub text : runText threads slots thread kind sample schedule ≡ s
-
--- a text with a wrong line is the text of no run
-pub wrong-none : (s : List ℕ) (k : ℕ) → readOf s ≡ wrong k → IsRun s → ⊥
-wrong-none s k e r =
-    let a : file (r .threads) (r .slots) (r .thread) (r .kind) (r .sample) (r .schedule) ≡ wrong k = sym (read-text (r .fits)) ∙ ap readOf (r .text) ∙ e in
-    let z : _≡_ {A = ℕ} 0 1 = cc in
-    omega arith
-
--- a text with no wrong line is the text of what was read
-pub read-or-wrong : (s : List ℕ) → IsRun s ⊎ ((k : ℕ) × (readOf s ≡ wrong k))
-read-or-wrong s = go (readOf s) refl
-  where
-    go : (f : File) → readOf s ≡ f → IsRun s ⊎ ((k : ℕ) × (readOf s ≡ wrong k))
-    go (file n m ts ks xs ss) e =
-        inl (record { threads = n; slots = m; thread = ts; kind = ks; sample = xs; schedule = ss; fits = read-fits s n m ts ks xs ss e; text = text-read s n m ts ks xs ss e })
-    go (wrong k) e = inr (k, e)

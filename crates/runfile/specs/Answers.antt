@@ -22,7 +22,8 @@ use Rattle.runfile.specs.declared.Read.the-variants as Rd
 use Rattle.runfile.specs.declared.Written.{Written}
 use Rattle.runfile.specs.declared.Written.the-variants as Wr
 use Rattle.runfile.specs.RunText.{runText}
-use Rattle.runfile.specs.Reading.{File, file, wrong, readOf}
+use Rattle.runfile.specs.Wrong.{File, file, wrong}
+use Rattle.runfile.specs.Reading.{readOf}
 
 abbrev pub over : {A : Type 0} → List A → List A → List A
 over vs l = vs ++ drop (length vs) l

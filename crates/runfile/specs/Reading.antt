@@ -1,11 +1,10 @@
--- What a text holds (document 01, 'Run files' and refusal 11): a run's input, or the first line that is not as written. Assumes nothing.
+-- Nothing here has to be believed: what a text holds, computed (document 01, 'Run files' and refusal 11). That it is what Wrong says a text holds, and that
+-- nothing else is, is proved: `read-holds`, `holds-read` and `read-wrong` in proofs/WrongLaws.antt.
 --   parts x s       what stands between the bytes x of s, always one part more than there are such bytes. The parts of a text between its line
 --                   feeds are its lines and, last, what stands after the last line feed: nothing may. The parts of a line between its tabs are its fields
 --   same            whether two fields are the same bytes
 --   numberAfter w   the number of a line whose fields are the word w and a number
 --   operationOf     the operation of a line (thread, kind, sample: 0 for a take), by its fields
---   File            a run's input: threads, slots, the operations' threads, kinds and samples, the schedule; or the number of the first line that is
---                   not as written, from 1
 --   threadsThen, slotsThen, opsFrom, stepsFrom
 --                   the reading from each place of a file on; the numbers say which line comes next. A missing line is wrong where it should have begun
 --   readOf          the reading of a whole text
@@ -23,6 +22,7 @@ use Rattle.numerals.specs.declared.Sample.the-variants as S
 use Rattle.runfile.specs.declared.Operation.{Operation}
 use Rattle.runfile.specs.declared.Operation.the-variants.{Is, Bad}
 use Rattle.runfile.specs.RunText.{threadsWord, slotsWord, putWord, takeWord, stepWord}
+pub use Rattle.runfile.specs.Wrong.{File, file, wrong}
 
 -- a byte before the first part
 abbrev pub onto : ℕ → List (List ℕ) → List (List ℕ)
@@ -60,10 +60,6 @@ operationOf (w ∷ []) = Bad
 operationOf (w ∷ t ∷ []) = cond (same w takeWord) (takeOf (numberOf t)) Bad
 operationOf (w ∷ t ∷ x ∷ []) = cond (same w putWord) (putOf (numberOf t) (sampleOf x)) Bad
 operationOf (w ∷ t ∷ x ∷ f ∷ fs) = Bad
-
-pub data File : Type 0 where
-  file : ℕ → ℕ → List ℕ → List ℕ → List ℤ → List ℕ → File
-  wrong : ℕ → File
 
 -- what the lines after a line give, with that line's record before it
 abbrev pub addThreads : ℕ → File → File
