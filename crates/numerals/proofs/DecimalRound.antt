@@ -8,7 +8,8 @@ use lib.ListN.{length, getD, length-append, List·getD-append}
 use lib.Dec.{leb, ltb, eqb}
 use borrow.Author.Tests.{ltb-true, ltb-false, leb-true, le-leb, eqb-false}
 use Rattle.numerals.specs.declared.Digits.the-variants.{Value}
-use Rattle.numerals.specs.Decimal.{isDigit, allDigits, value, plain, digitsOf, dec, decimal}
+use Rattle.numerals.specs.Decimal.{dec, decimal}
+use Rattle.numerals.specs.Reading.{isDigit, allDigits, value, plain, digitsOf}
 use Rattle.numerals.proofs.DigitLaws.{is-digit, plain-more}
 use Rattle.numerals.proofs.PrintLaws.{decimal-one, decimal-more}
 

@@ -13,7 +13,7 @@ use lib.Dec.{leb}
 use borrow.Author.Tests.{le-leb, lt-leb, ne-eqb, eq-eqb, leb-true}
 use Rattle.numerals.specs.declared.Digits.{Digits}
 use Rattle.numerals.specs.declared.Digits.the-variants.{Value, Bad}
-use Rattle.numerals.specs.Decimal.{isDigit, allDigits, value, plain, digitsOf, numberFrom, numberOf}
+use Rattle.numerals.specs.Reading.{isDigit, allDigits, value, plain, digitsOf, numberFrom, numberOf}
 
 abbrev pub judge : ℕ → ℕ → List ℕ → Digits
 judge limit acc s = cond (allDigits s) (cond (leb (value acc s) limit) (Value (value acc s)) Bad) Bad

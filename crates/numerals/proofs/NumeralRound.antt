@@ -1,11 +1,15 @@
 -- A number or a sample is read back from its text, and its text is the one that was read. Assumes nothing.
+--   number-exact, sample-exact
+--                        a number is read from a text exactly where it is at most 255 and the text its own; a sample where it fits 32 signed bits
 --   NumberIs, SampleIs   what is known of a text by its reading: it is the text of the number or sample read, which is within its bounds
-use mathlib.Core.Path.{_≡_, refl, sym, ap}
+use mathlib.Core.Path.{_≡_, refl, sym, _∙_, ap, subst}
+use mathlib.Core.Logic.{_↔_}
 use mathlib.Core.Bool.{Bool, true, false, cond}
 use mathlib.Core.List.{List, [], _∷_}
 use Prim.Native.Nat.{ℕ, zero, suc, _≤_}
 use native.Mathlib.Omega.{arith}
 use lib.Dec.{eqb, leb}
+use lib.IntN.{ℤ}
 use mir.Syntax.{w32}
 use mir.Val.{SFits}
 use borrow.Author.Tests.{eqb-true, leb-true}
@@ -15,9 +19,11 @@ use Rattle.numerals.specs.declared.Number.{Number}
 use Rattle.numerals.specs.declared.Number.the-variants as N
 use Rattle.numerals.specs.declared.Sample.{Sample}
 use Rattle.numerals.specs.declared.Sample.the-variants as S
-use Rattle.numerals.specs.Decimal.{value, plain, digitsOf, numberFrom, numberOf, decimal}
-use Rattle.numerals.specs.Samples.{sampleText, sampleOf, plusOf, minusOf}
+use Rattle.numerals.specs.Decimal.{decimal}
+use Rattle.numerals.specs.Samples.{sampleText}
+use Rattle.numerals.specs.Reading.{value, plain, digitsOf, numberFrom, numberOf, sampleOf, plusOf, minusOf}
 use Rattle.numerals.proofs.DecimalRound.{read-printed, printed-read}
+use Rattle.numerals.proofs.SampleLaws.{sample-round}
 
 -- a property of both arms is one of the choice
 pub cond-elim : {A : Type 0} (P : A → Type 0) (b : Bool) (x y : A) → (b ≡ true → P x) → (b ≡ false → P y) → P (cond b x y)
@@ -73,3 +79,12 @@ sample-is [] = tt
 sample-is (c ∷ s) =
     cond-elim (λ d. SampleIs d (c ∷ s)) (eqb c 45) (minusOf (digitsOf s 2147483648)) (plusOf (digitsOf (c ∷ s) 2147483647))
     (λ e. minus-is c s (digitsOf s 2147483648) (eqb-true c 45 e) (digits-are s 2147483648)) (λ e. plus-is (c ∷ s) (digitsOf (c ∷ s) 2147483647) (digits-are (c ∷ s) 2147483647))
+
+-- ---- what is read, and from which text
+pub number-exact : (s : List ℕ) (n : ℕ) → (numberOf s ≡ N.Is n) ↔ ((n ≤ 255) × (s ≡ decimal n))
+number-exact s n =
+    (λ e. let h = subst (λ (r : Number). NumberIs r s) e (number-is s) in (h .1, sym (h .0)), λ h. ap numberOf (h .1) ∙ number-round n (h .0))
+
+pub sample-exact : (s : List ℕ) (x : ℤ) → (sampleOf s ≡ S.Is x) ↔ (SFits w32 x × (s ≡ sampleText x))
+sample-exact s x =
+    (λ e. let h = subst (λ (r : Sample). SampleIs r s) e (sample-is s) in (h .1, sym (h .0)), λ h. ap sampleOf (h .1) ∙ sample-round x (h .0))

@@ -12,11 +12,11 @@ use borrow.Author.Tests.{ltb-true, eq-eqb, ne-eqb}
 use Rattle.numerals.specs.declared.Digits.{Digits}
 use Rattle.numerals.specs.declared.Digits.the-variants.{Value}
 use Rattle.numerals.specs.declared.Sample.the-variants.{Is, Bad}
-use Rattle.numerals.specs.Decimal.{digitsOf, decimal}
-use Rattle.numerals.specs.Samples.{sampleText, sampleOf, plusOf, minusOf, negated}
+use Rattle.numerals.specs.Decimal.{decimal}
+use Rattle.numerals.specs.Samples.{sampleText}
+use Rattle.numerals.specs.Reading.{digitsOf, sampleOf, plusOf, minusOf, negated, isDigit, allDigits}
 use mir.Syntax.{w32}
 use mir.Val.{SFits}
-use Rattle.numerals.specs.Decimal.{isDigit, allDigits}
 use Rattle.numerals.proofs.PrintLaws.{long-decimal, decimal-short}
 use Rattle.numerals.proofs.DecimalRound.{read-printed, all-decimal, digit-of, cond-both}
 

@@ -1,4 +1,5 @@
 pub mod Decimal
 pub mod Samples
+pub mod Reading
 pub mod Places
 pub mod Words

@@ -4,8 +4,9 @@ ghost use Prim.Native.Nat.{ℕ, _+_, _-_, _≤_, _<_};
 ghost use lib.IntN.{ℤ, pos, natAbs, negℤ};
 ghost use lib.ListN.{length, set};
 ghost use lib.Signed.{ltZ};
-ghost use Rattle.numerals.specs.Decimal.{digitsOf, numberOf, decimal};
-ghost use Rattle.numerals.specs.Samples.{sampleText, sampleOf};
+ghost use Rattle.numerals.specs.Decimal.{decimal};
+ghost use Rattle.numerals.specs.Samples.{sampleText};
+ghost use Rattle.numerals.specs.Reading.{digitsOf, numberOf, sampleOf};
 ghost use Rattle.numerals.specs.Places.{after, Put};
 
 // The number that a text writes in decimal digits.

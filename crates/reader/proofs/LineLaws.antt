@@ -14,8 +14,7 @@ use Rattle.numerals.specs.declared.Number.{Number}
 use Rattle.numerals.specs.declared.Number.the-variants as N
 use Rattle.numerals.specs.declared.Sample.{Sample}
 use Rattle.numerals.specs.declared.Sample.the-variants as S
-use Rattle.numerals.specs.Decimal.{numberOf}
-use Rattle.numerals.specs.Samples.{sampleOf}
+use Rattle.numerals.specs.Reading.{numberOf, sampleOf}
 use Rattle.numerals.proofs.PrintLaws.{sets-snoc}
 use Rattle.numerals.proofs.NumeralRound.{SampleIs, sample-is, cond-elim}
 use Rattle.limits.specs.declared.Refusal.the-variants as X

@@ -16,8 +16,7 @@ use Rattle.numerals.specs.declared.Number.{Number}
 use Rattle.numerals.specs.declared.Number.the-variants as N
 use Rattle.numerals.specs.declared.Sample.{Sample}
 use Rattle.numerals.specs.declared.Sample.the-variants as S
-use Rattle.numerals.specs.Decimal.{numberOf}
-use Rattle.numerals.specs.Samples.{sampleOf}
+use Rattle.numerals.specs.Reading.{numberOf, sampleOf}
 use Rattle.numerals.proofs.NumeralRound.{SampleIs, sample-is}
 use Rattle.runfile.specs.declared.Operation.the-variants as O
 use Rattle.reader.specs.declared.Field.the-variants as F

@@ -15,8 +15,7 @@ use Prim.Native.Nat.{ℕ, _+_, _≤_, _<_}
 use lib.IntN.{ℤ}
 use lib.ListN.{length, drop}
 use lib.Seq.{sets}
-use Rattle.numerals.specs.Decimal.{numberOf}
-use Rattle.numerals.specs.Samples.{sampleOf}
+use Rattle.numerals.specs.Reading.{numberOf, sampleOf}
 use Rattle.numerals.specs.declared.Number.the-variants as N
 use Rattle.limits.specs.declared.Refusal.the-variants as X
 use Rattle.runfile.specs.declared.Operation.{Operation}

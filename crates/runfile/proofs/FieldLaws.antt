@@ -11,8 +11,9 @@ use Rattle.numerals.specs.declared.Number.{Number}
 use Rattle.numerals.specs.declared.Number.the-variants as N
 use Rattle.numerals.specs.declared.Sample.{Sample}
 use Rattle.numerals.specs.declared.Sample.the-variants as S
-use Rattle.numerals.specs.Decimal.{isDigit, allDigits, numberOf, decimal}
-use Rattle.numerals.specs.Samples.{sampleText, sampleOf}
+use Rattle.numerals.specs.Decimal.{decimal}
+use Rattle.numerals.specs.Samples.{sampleText}
+use Rattle.numerals.specs.Reading.{isDigit, allDigits, numberOf, sampleOf}
 use Rattle.numerals.proofs.DecimalRound.{all-decimal, digit-of, cond-both}
 use Rattle.numerals.proofs.NumeralRound.{NumberIs, number-is, SampleIs, sample-is}
 use Rattle.runfile.specs.declared.Operation.the-variants as O

@@ -15,8 +15,9 @@ use Rattle.numerals.specs.declared.Number.{Number}
 use Rattle.numerals.specs.declared.Number.the-variants as N
 use Rattle.numerals.specs.declared.Sample.{Sample}
 use Rattle.numerals.specs.declared.Sample.the-variants as S
-use Rattle.numerals.specs.Decimal.{numberOf, decimal}
-use Rattle.numerals.specs.Samples.{sampleText, sampleOf}
+use Rattle.numerals.specs.Decimal.{decimal}
+use Rattle.numerals.specs.Samples.{sampleText}
+use Rattle.numerals.specs.Reading.{numberOf, sampleOf}
 use Rattle.numerals.proofs.SampleLaws.{sample-round}
 use Rattle.numerals.proofs.NumeralRound.{NumberIs, number-round, number-is, SampleIs, sample-is, cond-elim}
 use Rattle.limits.specs.Refusals.{isZero, unfit}

@@ -13,8 +13,7 @@ use mathlib.Core.List.{List, [], _∷_}
 use Prim.Native.Nat.{ℕ, suc}
 use lib.Dec.{eqb}
 use lib.IntN.{ℤ, pos}
-use Rattle.numerals.specs.Decimal.{numberOf}
-use Rattle.numerals.specs.Samples.{sampleOf}
+use Rattle.numerals.specs.Reading.{numberOf, sampleOf}
 use Rattle.numerals.specs.declared.Number.{Number}
 use Rattle.numerals.specs.declared.Number.the-variants as N
 use Rattle.numerals.specs.declared.Sample.{Sample}

@@ -6,7 +6,7 @@ use Prim.Native.Nat.{_≤_, _-_, _+_, zero-le}
 use native.Mathlib.Omega.{arith}
 use borrow.Author.Needs.{needs}
 use lib.ListN.{length, drop, getD}
-use Rattle.numerals.specs.Decimal.{plain, allDigits}
+use Rattle.numerals.specs.Reading.{plain, allDigits}
 use Rattle.numerals.proofs.DigitLaws.{judge, judge-over, judge-end, bad-at, next-at, from-judge, no-plain, low-no-digit, high-no-digit, plain-one, plain-more, plain-zero-first, plain-none}
 use Rattle.numerals.proofs.read_digits.Statement.{statement}
 use Rattle.numerals.proofs.read_digits.Tie as tie

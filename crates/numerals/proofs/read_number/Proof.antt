@@ -5,7 +5,7 @@ use Prim.Native.Nat.{_%_}
 use native.Mathlib.Omega.{arith}
 use Rattle.numerals.specs.declared.Digits.the-variants.{Value}
 use Rattle.numerals.specs.declared.Number.the-variants.{Is}
-use Rattle.numerals.specs.Decimal.{digitsOf, numberFrom}
+use Rattle.numerals.specs.Reading.{digitsOf, numberFrom}
 use borrow.Author.Needs.{needs}
 use Rattle.numerals.proofs.DigitLaws.{number-from, digits-small}
 use Rattle.numerals.proofs.read_number.Statement.{statement}

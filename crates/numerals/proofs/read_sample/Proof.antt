@@ -13,7 +13,7 @@ use Rattle.numerals.proofs.SignLaws.{minus-fits}
 use Rattle.numerals.specs.declared.Digits.{Digits}
 use Rattle.numerals.specs.declared.Digits.the-variants.{Value, Bad}
 use Rattle.numerals.specs.declared.Sample.the-variants.{Is}
-use Rattle.numerals.specs.Samples.{sampleOf, minusOf, plusOf, negated}
+use Rattle.numerals.specs.Reading.{sampleOf, minusOf, plusOf, negated}
 use Rattle.numerals.proofs.DigitLaws.{digits-small}
 use Rattle.numerals.proofs.SampleLaws.{sample-none, sample-minus, sample-plus, negated-is}
 use borrow.Author.Needs.{needs}

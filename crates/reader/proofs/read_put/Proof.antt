@@ -8,8 +8,7 @@ use lib.ListN.{take, drop}
 use lib.Seq.{length-take-le}
 use Rattle.numerals.specs.declared.Number.{Number}
 use Rattle.numerals.specs.declared.Sample.the-variants as S
-use Rattle.numerals.specs.Decimal.{numberOf}
-use Rattle.numerals.specs.Samples.{sampleOf}
+use Rattle.numerals.specs.Reading.{numberOf, sampleOf}
 use Rattle.runfile.specs.declared.Operation.the-variants as O
 use Rattle.reader.specs.declared.Field.{Field}
 use Rattle.reader.specs.declared.Field.the-variants as F
