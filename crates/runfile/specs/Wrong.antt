@@ -8,7 +8,8 @@
 --                    are so of none. A line that is missing, or not ended, is never among the first k lines
 --   File             a run's input: threads, slots, the operations' threads, kinds and samples, the schedule; or the number of the first line that is
 --                    not as written
---   Holds s f        f is what the text s holds. It is so of one f only, which `readOf` computes (`read-holds`, `holds-read`)
+--   Holds s f        f is what the text s holds: a run's input, or the first wrong line of a text that is no run file. It is so of one f only (`holds-one`),
+--                    which `readOf` computes (`read-holds`, `holds-read`)
 use mathlib.Core.Path.{_≡_}
 use mathlib.Core.Bool.{cond}
 use mathlib.Core.Logic.{_⊎_}
