@@ -9,6 +9,7 @@
 --   runs-balance               stores = finds + filled slots
 --   accepted-exactly           demand 2: an order is accepted exactly if it is a linearization
 --   same-bytes, same-lists     demand 2: run files read and write back
+--   text-holds, holds-one      what `readOf` gives for a text is what the text holds: a run's input, or the first line that is not as written
 --   order-of-a-run             demand 3, of what the run wrote
 --   judge-passes-runs          the judge's verdict on what a run wrote is 0
 --   run-one, judge-one, read-one, write-one, list-one, print-one   two results that meet a contract are the same
@@ -36,6 +37,7 @@ use Rattle.runfile.specs.declared.Read.{Read}
 use Rattle.runfile.specs.declared.Read.the-variants.{Run, Refused as Unread}
 use Rattle.runfile.specs.declared.Written.{Written}
 use Rattle.runfile.specs.declared.Written.the-variants.{Bytes, Refused as Unwritten}
+use Rattle.runfile.specs.Wrong.{File, Holds}
 use Rattle.runfile.specs.Reading.{readOf}
 use Rattle.runfile.specs.Answers.{over, readAnswer, threadIn, kindIn, sampleIn, scheduleIn, ReadSays, WriteSays}
 use Rattle.runfile.specs.RunText.{Fitting}
@@ -122,6 +124,14 @@ pub same-bytes : {s thread₀ kind₀ : List ℕ} {sample₀ : List ℤ} {schedu
     → WriteSays n m (take o thread) (take o kind) (take o sample) (take t schedule) text₀ r text → length s ≤ length text₀
     → (r ≡ Bytes (length s)) × (text ≡ over s text₀)
 same-bytes a w h = file.write-read a w h
+
+-- what the reader's contract calls `readOf text` is what the text holds, and a text holds one thing only: the input whose text it is, or, where it is the text
+-- of none, the first line such that no run file has the same lines up to and with it ('11, a line of a run file is not as written; lowest such line')
+pub text-holds : (text : List ℕ) → Holds text (readOf text)
+text-holds text = file.read-holds text
+
+pub holds-one : (text : List ℕ) (f g : File) → Holds text f → Holds text g → f ≡ g
+holds-one text f g a b = file.holds-one text f g a b
 
 -- 'A refused call writes nothing into memory that was lent', of the reader
 pub refused-read : {s thread₀ kind₀ : List ℕ} {sample₀ : List ℤ} {schedule₀ : List ℕ} {x : Refusal} {thread kind : List ℕ} {sample : List ℤ} {schedule : List ℕ}
