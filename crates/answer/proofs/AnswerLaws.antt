@@ -21,7 +21,7 @@ use Rattle.runfile.proofs.FitLaws.{fit-room}
 use Rattle.runfile.proofs.RunFiles.{accepted}
 use Rattle.listing.specs.declared.Listing.{Listing}
 use Rattle.listing.specs.declared.Listing.the-variants.{Bytes, Refused as NotWritten}
-use Rattle.listing.specs.Lines.{refusedLine}
+use Rattle.lines.specs.Lines.{refusedLine}
 use Rattle.listing.specs.Listing.{listingText, listingFit, ListSays, RefusalSays}
 use Rattle.answer.specs.Answer.{printed, answerText, AnswerSays}
 

@@ -14,7 +14,7 @@ use Rattle.runfile.specs.declared.Read.the-variants.{Run, Refused}
 use Rattle.runfile.specs.Reading.{File, readOf}
 use Rattle.runfile.specs.Answers.{readAnswer, threadIn, kindIn, sampleIn, scheduleIn}
 use Rattle.listing.specs.declared.Listing.{Listing}
-use Rattle.listing.specs.Lines.{refusedLine}
+use Rattle.lines.specs.Lines.{refusedLine}
 use Rattle.listing.specs.Listing.{listingText, textFit, listingAs}
 
 -- the listing of the run, or the line of the refusal

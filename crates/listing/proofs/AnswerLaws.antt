@@ -1,21 +1,18 @@
 -- The answer where a text is written into a lent one, and where it does not fit. Assumes nothing.
 use mathlib.Core.Path.{_≡_, refl, _∙_}
 use mathlib.Core.Bool.{true, false}
-use mathlib.Core.List.{List, [], _∷_, _++_}
+use mathlib.Core.List.{List}
 use Prim.Native.Nat.{ℕ, _≤_, _<_}
 use native.Mathlib.Omega.{arith}
 use borrow.Author.Tests.{le-leb, lt-leb}
 use lib.Dec.{leb}
-use lib.ListN.{length, length-append}
+use lib.ListN.{length}
 use Rattle.limits.specs.declared.Refusal.{Refusal}
 use Rattle.limits.specs.declared.Refusal.the-variants.{Room}
-use Rattle.limits.specs.Refusals.{refusalNumber, refusalDetail}
 use Rattle.order.proofs.StoreLaws.{sets-front}
-use Rattle.numerals.specs.Decimal.{decimal}
 use Rattle.numerals.specs.Places.{Put}
-use Rattle.numerals.proofs.PrintLaws.{decimal-short}
 use Rattle.listing.specs.declared.Listing.the-variants.{Bytes, Refused}
-use Rattle.listing.specs.Lines.{refusedLine}
+use Rattle.lines.specs.Lines.{refusedLine}
 use Rattle.listing.specs.declared.Listing.{Listing}
 use Rattle.listing.specs.Listing.{RefusalSays}
 use Rattle.listing.specs.Twins.{TextSays}
@@ -32,14 +29,6 @@ pub text-short : {w text : List ℕ} → length text < length w → TextSays w t
 text-short {w} {text} short =
     let b : leb (length w) (length text) ≡ false = lt-leb (length w) (length text) short in
     record { answer = rw b; bytes = rw b }
-
--- the line of a refusal whose detail fits 64 bits is a short one
-pub refused-short : (r : Refusal) → refusalNumber r ≤ 255 → refusalDetail r ≤ 18446744073709551615 → length (refusedLine r) ≤ 64
-unfolding refusedLine
-refused-short r small fits =
-    let n = decimal (refusalNumber r) in
-    let d = decimal (refusalDetail r) in
-    omega (arith, length-append n (9 ∷ (d ++ (10 ∷ []))), length-append d (10 ∷ []), decimal-short 2 (refusalNumber r) (omega arith), decimal-short 19 (refusalDetail r) (omega arith))
 
 pub refusal-says : {r : Refusal} {text new : List ℕ} {n : Listing} → TextSays (refusedLine r) text n new → length (refusedLine r) ≤ 64 → RefusalSays r text n new
 refusal-says t short = record { answer = t .answer; bytes = t .bytes; short = short }

@@ -1,6 +1,5 @@
 pub mod Worked
-pub mod PutLaws
-pub mod LineLaws
+pub mod LoopLaws
 pub mod AnswerLaws
 pub mod LengthLaws
 pub mod ListingLaws

@@ -21,7 +21,7 @@ use Rattle.machine.specs.Bench.{Bench, Slot, Empty, Filled, idler}
 use Rattle.machine.specs.Shown.{codes, samples, order, mark, held, recordOf, records}
 use Rattle.machine.proofs.RunLaws.{Run, run-played, puts-fit, workers-length, slots-length, history-right}
 use Rattle.run.specs.Run.{benchAfter, summaryOf, restRecord, recordsAfter}
-use Rattle.listing.specs.Lines.{line, linesFrom, eventLine, orderLine, slotLine, threadLine, countLines, listingOf}
+use Rattle.lines.specs.Lines.{line, linesFrom, eventLine, orderLine, slotLine, threadLine, countLines, listingOf}
 use Rattle.listing.specs.Listing.{listingText}
 use Rattle.numerals.specs.Words.{bytes}
 use Rattle.listing.specs.Twins.{upto, eventAt, orderAt, slotAt, threadAt, listingBy}

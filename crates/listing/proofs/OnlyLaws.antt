@@ -13,7 +13,7 @@ use Rattle.limits.specs.declared.Fit.the-variants.{Pass}
 use Rattle.limits.specs.Refusals.{inputRefusal}
 use Rattle.listing.specs.declared.Listing.{Listing}
 use Rattle.listing.specs.declared.Listing.the-variants.{Bytes}
-use Rattle.listing.specs.Lines.{refusedLine}
+use Rattle.lines.specs.Lines.{refusedLine}
 use Rattle.listing.specs.Listing.{listingText, listingFit, ListSays, RefusalSays}
 
 -- both answers and both texts are equal to one value

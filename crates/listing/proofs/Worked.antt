@@ -11,7 +11,7 @@ use Rattle.machine.specs.Counts.{over}
 use Rattle.machine.specs.Shown.{unfound}
 use Rattle.run.specs.Run.{summaryOf}
 use Rattle.order.specs.Order.{merge}
-use Rattle.listing.specs.Lines.{linesFrom, listingOf}
+use Rattle.lines.specs.Lines.{linesFrom, listingOf}
 use Rattle.listing.specs.Listing.{listingText}
 
 -- the listing that document 01 prints, a line a line

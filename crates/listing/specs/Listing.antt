@@ -21,7 +21,7 @@ use Rattle.limits.specs.Refusals.{inputRefusal, andThen, unless}
 use Rattle.run.specs.Run.{benchAfter, summaryOf, lentAfter}
 use Rattle.listing.specs.declared.Listing.{Listing}
 use Rattle.listing.specs.declared.Listing.the-variants.{Bytes, Refused}
-use Rattle.listing.specs.Lines.{listingOf, refusedLine}
+use Rattle.lines.specs.Lines.{listingOf, refusedLine}
 
 unfoldable pub listingText : ℕ → ℕ → List ℕ → List ℕ → List ℤ → List ℕ → List ℕ
 listingText threads slots thread kind sample schedule =

@@ -1,46 +1,28 @@
 -- Nothing in this file has to be believed: what the private functions write, by the definitions of Lines.
 --   upto g n    the texts g 0 to g (n - 1), one after the other
---   returnBy    the line of a return, by its operation's kind and the sample beside it
---   eventBy     the line of an event, by its code and the sample beside it
---   slotBy      the line of a slot, by its mark and the sample it holds
 --   eventAt ..  the line at an index
---   phaseText   what follows a thread's number
 --   Both        no more entries than the most there can be, and than either list has
 --   Shown       the first entries of which a listing is made are there
 --   listingBy   the whole listing, by what a run answers and the lists it filled
 --   TextSays    the answer where a text is to be written, and the lent text afterwards
 use mathlib.Core.Path.{_≡_}
-use mathlib.Core.Bool.{cond}
 use mathlib.Core.List.{List, [], _∷_, _++_}
 use Prim.Native.Nat.{ℕ, zero, suc, _≤_}
-use lib.Dec.{eqb}
 use lib.IntN.{ℤ, pos}
 use lib.ListN.{length, getD}
-use Rattle.limits.specs.Operations.{kindOf, tableOf}
-use Rattle.history.specs.History.{ret, answer, eventOf}
-use Rattle.machine.specs.declared.Phase.{Phase}
 use Rattle.machine.specs.declared.ThreadRecord.{ThreadRecord}
-use Rattle.machine.specs.Bench.{Empty, Filled}
 use Rattle.run.specs.declared.Summary.{Summary}
 use Rattle.run.specs.Run.{lentAfter, restRecord}
 use Rattle.numerals.specs.Decimal.{decimal}
 use Rattle.listing.specs.declared.Listing.{Listing}
 use Rattle.numerals.specs.Words.{bytes}
-use Rattle.listing.specs.Lines.{line, eventLine, orderLine, slotLine, threadLine, phaseFields, countLines}
+use Rattle.lines.specs.Lines.{line, orderLine, threadLine, countLines}
+use Rattle.lines.specs.Twins.{eventBy, slotBy}
 use Rattle.listing.specs.Listing.{textFit, listingAs}
 
 unfoldable pub upto : (ℕ → List ℕ) → ℕ → List ℕ
 upto g zero = []
 upto g (suc n) = upto g n ++ g n
-
-abbrev pub eventBy : List ℕ → ℕ → ℤ → List ℕ
-eventBy kind c x = eventLine (eventOf (tableOf [] kind []) c x)
-
-abbrev pub returnBy : ℕ → ℕ → ℤ → List ℕ
-returnBy o k x = eventLine (ret o (answer (kindOf k) x))
-
-abbrev pub slotBy : ℕ → ℕ → ℤ → List ℕ
-slotBy i mark x = slotLine i (cond (eqb mark 0) Empty (Filled x))
 
 abbrev pub eventAt : List ℕ → List ℕ → List ℤ → ℕ → List ℕ
 eventAt kind codes values i = eventBy kind (getD codes i 0) (getD values i (pos 0))
@@ -53,9 +35,6 @@ slotAt marks held i = slotBy i (getD marks i 0) (getD held i (pos 0))
 
 abbrev pub threadAt : List ThreadRecord → ℕ → List ℕ
 threadAt records t = threadLine t (getD records t restRecord .phase)
-
-abbrev pub phaseText : Phase → List ℕ
-phaseText p = line (phaseFields p)
 
 pub record Both (n most first second : ℕ) : Type 0 where
   pub few : n ≤ most

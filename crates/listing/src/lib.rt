@@ -3,11 +3,10 @@ ghost use mathlib.Core.Path.{_≡_};
 ghost use Prim.Native.Nat.{ℕ, _≤_};
 ghost use lib.ListN.{length};
 ghost use Rattle.numerals.specs.Places.{Put};
-ghost use Rattle.listing.specs.Lines.{refusedLine};
 ghost use Rattle.listing.specs.Listing.{ListSays, RefusalSays};
 ghost use Rattle.listing.specs.Twins.{Shown, listingBy, TextSays};
 
-mod lines;
+mod parts;
 
 use limits::Refusal;
 use machine::ThreadRecord;
@@ -42,10 +41,10 @@ fn put_listing(
     ensures { λ r. ⌜ length (listingBy s records threads slots (now (kind .entry)) (now (codes .entry)) (now (values .entry)) (now (order .entry)) (now (marks .entry)) (now (held .entry))) ≤ 12288 ⌝ }
 {
     let first_event = lines::put_line(out, 0, b"back\t", s.back);
-    let first_listed = lines::put_events(out, first_event, codes, values, kind, s.events);
-    let first_slot = lines::put_order(out, first_listed, order, s.order);
-    let first_thread = lines::put_slots(out, first_slot, marks, held, slots);
-    let first_count = lines::put_threads(out, first_thread, records, threads);
+    let first_listed = parts::put_events(out, first_event, codes, values, kind, s.events);
+    let first_slot = parts::put_order(out, first_listed, order, s.order);
+    let first_thread = parts::put_slots(out, first_slot, marks, held, slots);
+    let first_count = parts::put_threads(out, first_thread, records, threads);
     lines::put_counts(out, first_count, s)
 }
 
@@ -153,26 +152,15 @@ pub fn list_run(
     }
 }
 
-// The line of a refusal, written from the start of out on.
-fn put_refusal(out: &mut [u8], r: Refusal) -> usize
-    ensures { λ n. ⌜ Put (now (out .entry)) 0 (refusedLine r) n (now (out .exit)) ⌝ }
-    ensures { λ n. ⌜ length (refusedLine r) ≤ 64 ⌝ }
-{
-    let number = lines::put_word(out, 0, b"refused\t");
-    let tab = lines::put_short(out, number, limits::number(r) as usize);
-    let detail = lines::put_word(out, tab, b"\t");
-    lines::end_number(out, detail, limits::detail(r))
-}
-
 // The one line that refused input gets, where it fits.
 pub fn list_refusal(r: Refusal, text: &mut [u8]) -> Listing
     ensures { λ n. ⌜ RefusalSays r (now (text .entry)) n (now (text .exit)) ⌝ }
 {
     let mut none = [0u8; 1];
-    let n = put_refusal(&mut none, r);
+    let n = lines::put_refusal(&mut none, r);
     if text.len() < n {
         return Listing::Refused(Refusal::Room);
     }
-    let bytes = put_refusal(text, r);
+    let bytes = lines::put_refusal(text, r);
     Listing::Bytes(bytes)
 }

@@ -44,7 +44,7 @@ use Rattle.runfile.specs.RunText.{Fitting}
 use Rattle.runfile.proofs.RunFiles as file
 use Rattle.listing.specs.declared.Listing.{Listing}
 use Rattle.listing.specs.declared.Listing.the-variants.{Bytes as Listed, Refused as Unlisted}
-use Rattle.listing.specs.Lines.{refusedLine}
+use Rattle.lines.specs.Lines.{refusedLine}
 use Rattle.listing.specs.Listing.{listingText, listingFit, ListSays}
 use Rattle.listing.proofs.OnlyLaws.{list-only}
 use Rattle.answer.specs.Answer.{answerText, AnswerSays}

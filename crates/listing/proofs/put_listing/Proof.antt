@@ -5,10 +5,11 @@ use native.Mathlib.Omega.{arith}
 use lib.ListN.{length}
 use Rattle.numerals.specs.Decimal.{decimal}
 use Rattle.numerals.specs.Words.{bytes}
-use Rattle.listing.specs.Lines.{line, countLines}
+use Rattle.lines.specs.Lines.{line, countLines}
 use Rattle.listing.specs.Twins.{upto, eventAt, orderAt, slotAt, threadAt, listingBy}
-use Rattle.listing.proofs.PutLaws.{put-six}
-use Rattle.listing.proofs.LengthLaws.{back-low, parts-low}
+use Rattle.lines.proofs.PutLaws.{put-six}
+use Rattle.lines.proofs.LengthLaws.{back-low}
+use Rattle.listing.proofs.LengthLaws.{parts-low}
 use borrow.Author.Needs.{needs}
 use Rattle.listing.proofs.put_listing.Statement.{statement}
 use Rattle.listing.proofs.put_listing.Tie as tie
