@@ -6,7 +6,7 @@ use Rattle.runfile_worked.proofs.show_first.Statement.{statement}
 use Rattle.runfile_worked.proofs.show_first.Tie as tie
 
 slice-aggregate-show : tie.Need-slice-aggregate-show
-slice-aggregate-show c = sym (length-take-le (c .before .before .before .before .args .n) (c .before .before .before .before .args .text .now) (c .before .if1 .taken))
+slice-aggregate-show c = sym (length-take-le (c .before .before .before .args .n) (c .before .before .before .args .text .now) (c .before .if1 .taken))
 
 show-requires : tie.Need-show-requires
 show-requires c κs = search needs
