@@ -59,118 +59,60 @@ fn show_three() {
     show(b"run B\n", 3, 2, &thread, &kind, &second, &schedule_b);
 }
 
-// No operations; a put and a take on one thread; a take alone.
-fn show_one() {
-    let steps = [0u8; 8];
-    let thread = [0u8, 0];
-    let kind = [1u8, 2];
-    let sample = [7i32, 0];
-    let taking = [2u8];
-    show(
-        b"run C\n",
-        1,
-        1,
-        &thread[..0],
-        &kind[..0],
-        &sample[..0],
-        &steps[..0],
-    );
-    show(
-        b"run D\n",
-        1,
-        1,
-        &thread[..0],
-        &kind[..0],
-        &sample[..0],
-        &steps[..3],
-    );
-    show(b"run E\n", 1, 1, &thread, &kind, &sample, &steps);
-    show(b"run F\n", 1, 1, &thread, &kind, &sample, &steps[..7]);
-    show(b"run G\n", 1, 1, &thread, &kind, &sample, &steps[..2]);
-    show(
-        b"run H\n",
-        1,
-        1,
-        &thread[..1],
-        &taking,
-        &sample[1..],
-        &steps[..3],
-    );
+// No operations.
+fn show_none(name: &[u8], threads: usize, slots: usize, schedule: &[u8]) {
+    let thread = [0u8; 0];
+    let sample = [0i32; 0];
+    show(name, threads, slots, &thread, &thread, &sample, schedule);
 }
 
-// The bounds.
-fn show_bounds() {
-    let thread = [0u8, 0];
-    let kind = [1u8, 1];
+// A put and a take on one thread.
+fn show_both(name: &[u8], schedule: &[u8]) {
+    let sample = [7i32, 0];
+    show(name, 1, 1, b"\x00\x00", b"\x01\x02", &sample, schedule);
+}
+
+// A take alone.
+fn show_take(name: &[u8], schedule: &[u8]) {
+    let sample = [0i32];
+    show(name, 1, 1, b"\x00", b"\x02", &sample, schedule);
+}
+
+// One thread and one slot.
+fn show_one() {
+    show_none(b"run C\n", 1, 1, b"");
+    show_none(b"run D\n", 1, 1, b"\x00\x00\x00");
+    show_both(b"run E\n", b"\x00\x00\x00\x00\x00\x00\x00\x00");
+    show_both(b"run F\n", b"\x00\x00\x00\x00\x00\x00\x00");
+    show_both(b"run G\n", b"\x00\x00");
+    show_take(b"run H\n", b"\x00\x00\x00");
+}
+
+// Two puts on one thread, and no schedule.
+fn show_puts(name: &[u8], slots: usize) {
     let sample = [0i32, 0];
+    show(name, 1, slots, b"\x00\x00", b"\x01\x01", &sample, b"");
+}
+
+// The bounds of the numbers of threads and slots.
+fn show_bounds() {
+    show_none(b"run J: no threads, no slots\n", 0, 0, b"");
+    show_none(b"run J: 16 threads\n", 16, 1, b"");
+    show_none(b"run J: 17 threads\n", 17, 1, b"");
+    show_puts(b"run J: 2 puts, 1 slot\n", 1);
+    show_puts(b"run J: 2 puts, 2 slots\n", 2);
+}
+
+// The bound of the schedule's length.
+fn show_entries() {
     let steps = [0u8; 4097];
-    show(
-        b"run J: no threads, no slots\n",
-        0,
-        0,
-        &thread[..0],
-        &kind[..0],
-        &sample[..0],
-        &steps[..0],
-    );
-    show(
-        b"run J: 16 threads\n",
-        16,
-        1,
-        &thread[..0],
-        &kind[..0],
-        &sample[..0],
-        &steps[..0],
-    );
-    show(
-        b"run J: 17 threads\n",
-        17,
-        1,
-        &thread[..0],
-        &kind[..0],
-        &sample[..0],
-        &steps[..0],
-    );
-    show(
-        b"run J: 2 puts, 1 slot\n",
-        1,
-        1,
-        &thread,
-        &kind,
-        &sample,
-        &steps[..0],
-    );
-    show(
-        b"run J: 2 puts, 2 slots\n",
-        1,
-        2,
-        &thread,
-        &kind,
-        &sample,
-        &steps[..0],
-    );
-    show(
-        b"run J: 4096 entries\n",
-        1,
-        1,
-        &thread[..0],
-        &kind[..0],
-        &sample[..0],
-        &steps[..4096],
-    );
-    show(
-        b"run J: 4097 entries\n",
-        1,
-        1,
-        &thread[..0],
-        &kind[..0],
-        &sample[..0],
-        &steps,
-    );
+    show_none(b"run J: 4096 entries\n", 1, 1, &steps[..4096]);
+    show_none(b"run J: 4097 entries\n", 1, 1, &steps);
 }
 
 fn main() {
     show_three();
     show_one();
     show_bounds();
+    show_entries();
 }
