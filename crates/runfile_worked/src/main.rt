@@ -154,7 +154,7 @@ fn repeat(out: &mut [u8], at: usize, line: &[u8], times: usize) -> usize {
     place
 }
 
-// The next byte of a list: a bar ends a name, a semicolon a text. Gives how many bytes of the name or the text there are now.
+// The next byte of a list: a bar ends a name, a semicolon a text, a star stands for the line. Gives how many bytes of the name or text there are.
 fn take_byte(b: u8, out: &mut [u8], n: usize, line: &[u8], times: usize) -> usize {
     if b == b'|' {
         say(out, n);
