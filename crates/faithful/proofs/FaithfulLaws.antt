@@ -9,14 +9,14 @@ use native.Mathlib.Omega.{arith}
 use lib.IntN.{ℤ, pos}
 use lib.ListN.{length, getD, replicate, length-replicate, length-map, List·getD-map}
 use Rattle.limits.specs.Lists.{All}
-use Rattle.limits.specs.Operations.{Table, tableOf}
+use Rattle.limits.specs.Operations.{Table, tableOf, inputOf}
 use Rattle.limits.proofs.PassLaws.{Passed, fit-thread}
 use Rattle.history.specs.History.{codeOf, beside}
 use Rattle.history.proofs.ListLaws.{clash}
 use Rattle.history.proofs.PrecedenceLists.{all-of-getD}
 use Rattle.machine.specs.declared.Phase.the-variants as P
 use Rattle.machine.specs.Bench.{Empty, Bench, idler, step, ownFrom, resting, start, played}
-use Rattle.machine.specs.Counts.{over, idleStep, storeStep, swapStep, findStep, fruitlessStep}
+use Rattle.machine.specs.StepCounts.{over, idleStep, storeStep, swapStep, findStep, fruitlessStep}
 use Rattle.machine.specs.Shown.{mark}
 use Rattle.machine.proofs.RunLaws.{run-start, run-step, puts-fit}
 use Rattle.stepping.specs.declared.Core.{Core}
@@ -59,7 +59,7 @@ shows-start T n m few first next cs vs p = record {
 }
 
 -- an input that passes is planned: no operation's thread is 16 or more
-plan-passed : (n m : ℕ) (thread kind : List ℕ) (sample : List ℤ) (schedule : List ℕ) → Passed n m thread kind sample schedule
+plan-passed : (n m : ℕ) (thread kind : List ℕ) (sample : List ℤ) (schedule : List ℕ) → Passed (inputOf n m thread kind sample schedule)
     → Planned (tableOf thread kind sample) 0 (length thread) (planFrom 0 thread .first) (planFrom 0 thread .next)
 plan-passed n m thread kind sample schedule p = planned-from (tableOf thread kind sample) (p .few) 0 thread (zero-add (length thread)) named
   where
@@ -111,7 +111,7 @@ faithful-of T n m schedule S B next cs vs c w s k none = record {
 -- ---- the whole
 
 -- the world at the start shows the bench at the start, each step keeps that, and at the end it is read off
-pub faithful : (threads slots : ℕ) (thread kind : List ℕ) (sample : List ℤ) (schedule : List ℕ) → Passed threads slots thread kind sample schedule
+pub faithful : (threads slots : ℕ) (thread kind : List ℕ) (sample : List ℤ) (schedule : List ℕ) → Passed (inputOf threads slots thread kind sample schedule)
     → (cs : List ℕ) (vs : List ℤ) → 2 * length thread ≤ length cs → 2 * length thread ≤ length vs
     → Faithful (tableOf thread kind sample) threads slots schedule (start (tableOf thread kind sample) threads slots)
     (played (tableOf thread kind sample) (start (tableOf thread kind sample) threads slots) schedule) cs vs

@@ -10,7 +10,7 @@ use borrow.Author.Tests.{lt-ltb, ltb-true, ltb-false, eq-eqb, ne-eqb}
 use Rattle.history.proofs.PrecedenceLists.{length-snoc}
 use Rattle.machine.specs.declared.Phase.the-variants as P
 use Rattle.machine.specs.Bench.{Slot, Empty, Filled, Bench, back, workerAt, in-phase, moved, pass, swaps}
-use Rattle.machine.specs.Counts.{met, missedLast}
+use Rattle.machine.specs.StepCounts.{met, missedLast}
 use Rattle.machine.specs.Shown.{mark}
 use Rattle.machine.proofs.RunLaws.{run-room, slots-length, slot-held, finds-most, thread-scanning}
 use Rattle.stepping.specs.declared.Doing.the-variants.{CalledTake, Scanning, Holding}

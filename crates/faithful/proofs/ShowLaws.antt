@@ -15,7 +15,7 @@ use Rattle.history.specs.History.{Event, codeOf, beside}
 use Rattle.history.proofs.PrecedenceLists.{set-case, length-snoc, getD-snoc, getD-last, map-append}
 use Rattle.machine.specs.declared.Phase.{Phase}
 use Rattle.machine.specs.Bench.{Slot, Empty, Worker, Bench, idler}
-use Rattle.machine.specs.Counts.{idleIn, storeIn, scanIn, met, missedLast}
+use Rattle.machine.specs.StepCounts.{idleIn, storeIn, scanIn, met, missedLast}
 use Rattle.machine.specs.Shown.{mark}
 use Rattle.stepping.specs.declared.Doing.{Doing}
 use Rattle.stepping.specs.declared.Doing.the-variants.{Rest, CalledPut, Reserved, Stored, CalledTake, Scanning, Holding}

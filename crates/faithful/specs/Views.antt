@@ -6,11 +6,11 @@ use mathlib.Core.List.{List, _++_, map}
 use Prim.Native.Nat.{ℕ, _<_}
 use lib.IntN.{ℤ}
 use lib.ListN.{length, getD, take, drop}
-use Rattle.limits.specs.Operations.{Table, tableOf}
+use Rattle.limits.specs.Operations.{Table}
 use Rattle.machine.specs.declared.Phase.{Phase}
 use Rattle.machine.specs.declared.Phase.the-variants as P
-use Rattle.machine.specs.Bench.{Bench, Empty, back, workerAt, start, played}
-use Rattle.machine.specs.Counts.{over, idleStep, storeStep, swapStep, findStep, fruitlessStep}
+use Rattle.machine.specs.Bench.{Bench, Empty, back, workerAt}
+use Rattle.machine.specs.StepCounts.{over, idleStep, storeStep, swapStep, findStep, fruitlessStep}
 use Rattle.machine.specs.Shown.{mark, codes, samples}
 use Rattle.stepping.specs.declared.Doing.{Doing}
 use Rattle.stepping.specs.declared.Doing.the-variants as D

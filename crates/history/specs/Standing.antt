@@ -3,11 +3,9 @@
 --   Stands T h           each event of h can stand where it does, with the sample that belongs beside it
 use mathlib.Core.Path.{_≡_}
 use mathlib.Core.List.{List, [], _∷_, _++_}
-use mathlib.Core.Option.{Option}
 use Prim.Native.Nat.{ℕ, _<_}
 use lib.IntN.{ℤ, pos}
-use Rattle.limits.specs.Lists.{Mem}
-use Rattle.limits.specs.Operations.{Kind, putting, taking, Table}
+use Rattle.limits.specs.Operations.{putting, Table}
 use Rattle.history.specs.History.{Event, call, ret, Called, Returned, beside}
 
 -- not if the operation number is too high;

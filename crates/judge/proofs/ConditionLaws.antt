@@ -33,12 +33,12 @@ pub order-few : (size : ℕ) (l : List ℕ) → Free20 size l → length l ≤ s
 order-few size l f = few size l (all-at 0 (λ o. o < size) l (λ j lt. f j lt .0)) (pw-at 0 (λ a b. a ≢ b) l (λ j lt k kt e. f j lt .1 (k, kt, e)))
 
 -- a queue plays the same where takes may get the same
-plays-by : (kind : ℕ → Kind) (sample : ℕ → ℤ) (G H : ℕ → ℤ → Type 0) → ((o : ℕ) (v : ℤ) → kind o ≡ taking → G o v → H o v) → (l : List ℕ) (q : List ℤ) → Plays kind sample G q l → Plays kind sample H q l
+plays-by : (kind : ℕ → Kind) (sample : ℕ → ℤ) (G H : ℕ → ℤ → Type 0) → ((o : ℕ) (v : ℤ) → kind o ≡ taking → G o v → H o v) → (l : List ℕ) (q : List ℤ) → Plays kind sample G (λ r. Unit {0}) q l → Plays kind sample H (λ r. Unit {0}) q l
 plays-by kind sample G H f [] q p = tt
 plays-by kind sample G H f (o ∷ l) q p = go (kind o) refl q p (plays-by kind sample G H f l)
   where
-    go : (k : Kind) → kind o ≡ k → (q : List ℤ) → PlaysAt k (sample o) (G o) q (λ r. Plays kind sample G r l) → ((r : List ℤ) → Plays kind sample G r l → Plays kind sample H r l)
-        → PlaysAt k (sample o) (H o) q (λ r. Plays kind sample H r l)
+    go : (k : Kind) → kind o ≡ k → (q : List ℤ) → PlaysAt k (sample o) (G o) q (λ r. Plays kind sample G (λ r. Unit {0}) r l) → ((r : List ℤ) → Plays kind sample G (λ r. Unit {0}) r l → Plays kind sample H (λ r. Unit {0}) r l)
+        → PlaysAt k (sample o) (H o) q (λ r. Plays kind sample H (λ r. Unit {0}) r l)
     go putting e q p ih = ih (q ++ (sample o ∷ [])) p
     go taking e [] p ih = p
     go taking e (v ∷ q) p ih = (f o v e (p .0), ih q (p .1))

@@ -11,7 +11,8 @@ use Rattle.limits.specs.declared.Refusal.the-variants.{Threads, Lengths}
 use Rattle.limits.specs.declared.Fit.{Fit}
 use Rattle.limits.specs.declared.Fit.the-variants.{Pass, Refused as Stop}
 use Rattle.limits.specs.Operations.{tableOf}
-use Rattle.limits.specs.Refusals.{andThen, within, tableRefusal}
+use Rattle.limits.specs.Refusals.{andThen, within}
+use Rattle.limits.specs.Parts.{tableRefusal}
 use Rattle.history.specs.History.{Event as Happening, codeOf, beside, events}
 use Rattle.history.specs.Standing.{Stands}
 use Rattle.limits.specs.Lists.{All}
@@ -25,7 +26,8 @@ use Rattle.linear.specs.Linear.{Linearizes}
 use Rattle.linear.proofs.VerdictLaws.{linear-sound, linear-complete}
 use Rattle.judge.specs.declared.Judged.{Judged}
 use Rattle.judge.specs.declared.Judged.the-variants.{Says, Refused}
-use Rattle.judge.specs.Judge.{eventRefusal, judgeRefusal, orElse, judged}
+use Rattle.judge.specs.Judge.{judgeRefusal, judged}
+use Rattle.judge.specs.Marks.{eventRefusal, orElse}
 use Rattle.judge.proofs.RefusalLaws.{chain-threads, chain-lengths, chain-together, chain-pass, event-passes, passes-stand}
 
 -- verdict 0 is no refusal

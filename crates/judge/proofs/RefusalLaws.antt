@@ -18,12 +18,14 @@ use Rattle.limits.specs.declared.Fit.{Fit}
 use Rattle.limits.specs.declared.Fit.the-variants.{Pass, Refused}
 use Rattle.limits.specs.Lists.{lowestFrom, lowest}
 use Rattle.limits.specs.Operations.{tableOf}
-use Rattle.limits.specs.Refusals.{unless, unlessAt, andThen, within, together, unfitAt, tableRefusal}
+use Rattle.limits.specs.Refusals.{unless, unlessAt, andThen, within, together, unfitAt}
+use Rattle.limits.specs.Parts.{tableRefusal}
 use Rattle.limits.proofs.LimitsLaws.{together-lengths}
-use Rattle.history.proofs.ListLaws.{clash}
+use Rattle.limits.proofs.FitLaws.{unless-pass, unlessAt-pass, both-true, nowhere, lowest-none}
 use Rattle.judge.specs.Stand.{StandsAt}
 use Rattle.judge.specs.Decide.{stands?}
-use Rattle.judge.specs.Judge.{fails, eventRefusal, judgeRefusal}
+use Rattle.judge.specs.Judge.{fails, judgeRefusal}
+use Rattle.judge.specs.Marks.{eventRefusal}
 
 -- ---- the lowest number that a test holds of
 
@@ -40,27 +42,6 @@ module _ (p : ℕ → Bool) where
 
   pub lowest-first : (n i : ℕ) → i < n → p i ≡ true → ((j : ℕ) → j < i → p j ≡ false) → lowest p n ≡ At i
   lowest-first n i lt e f = from-first n 0 i (omega arith) (omega arith) e (λ j a b. f j b)
-
-  from-none : (n k : ℕ) → ((j : ℕ) → k ≤ j → j < k + n → p j ≡ false) → lowestFrom p k n ≡ Nowhere
-  unfolding lowestFrom
-  from-none zero k f = refl
-  from-none (suc n) k f = rw (f k (omega arith) (omega arith)) (from-none n (suc k) (λ j a b. f j (omega arith) (omega arith)))
-
-  pub lowest-none : (n : ℕ) → ((j : ℕ) → j < n → p j ≡ false) → lowest p n ≡ Nowhere
-  lowest-none n f = from-none n 0 (λ j a b. f j (omega arith))
-
-  none-from : (n k : ℕ) → lowestFrom p k n ≡ Nowhere → (j : ℕ) → k ≤ j → j < k + n → p j ≡ false
-  unfolding lowestFrom
-  none-from zero k e j a b = absurd (omega arith)
-  none-from (suc n) k e j a b = go (p k) refl e (ℕ-discrete k j) (λ q ne. none-from n (suc k) q j (omega arith) (omega arith))
-    where
-      go : (t : Bool) → p k ≡ t → cond t (At k) (lowestFrom p (suc k) n) ≡ Nowhere → Dec (k ≡ j) → (lowestFrom p (suc k) n ≡ Nowhere → k ≢ j → p j ≡ false) → p j ≡ false
-      go true q r d ih = clash (cc)
-      go false q r (yes s) ih = ap p (sym s) ∙ q
-      go false q r (no ne) ih = ih r ne
-
-  pub none-lowest : (n : ℕ) → lowest p n ≡ Nowhere → (j : ℕ) → j < n → p j ≡ false
-  none-lowest n e j lt = none-from n 0 e j (omega arith) (omega arith)
 
 -- ---- a decision that fails
 
@@ -79,15 +60,6 @@ not-fails (no _) e = absurd (false≢true (sym e))
 
 -- ---- one test of a chain
 
--- a chain that passes passes each test
-unless-pass : (b : Bool) (r : Refusal) (f : Fit) → unless b r f ≡ Pass → (b ≡ true) × (f ≡ Pass)
-unless-pass true r f e = (refl, e)
-unless-pass false r f e = clash (cc)
-
-unlessAt-pass : (p : Place) (r : ℕ → Refusal) (f : Fit) → unlessAt p r f ≡ Pass → (p ≡ Nowhere) × (f ≡ Pass)
-unlessAt-pass Nowhere r f e = (refl, e)
-unlessAt-pass (At i) r f e = clash (cc)
-
 -- a chain that goes on after its end
 unless-then : (b : Bool) (r : Refusal) (f g : Fit) → andThen (unless b r f) g ≡ unless b r (andThen f g)
 unless-then true r f g = refl
@@ -105,11 +77,6 @@ and-true false = refl
 and-false : (b : Bool) → (b && false) ≡ false
 and-false true = refl
 and-false false = refl
-
-and-both : (a b : Bool) → (a && b) ≡ true → (a ≡ true) × (b ≡ true)
-and-both true true e = (refl, refl)
-and-both true false e = absurd (false≢true e)
-and-both false b e = absurd (false≢true e)
 
 -- ---- refusal 10
 
@@ -135,7 +102,7 @@ module _ (thread kind : List ℕ) (sample : List ℤ) (cs : List ℕ) (xs : List
   unfolding eventRefusal
   passes-stand e j lt =
       not-fails (stands? (tableOf thread kind sample) cs xs j)
-      (none-lowest bad (length cs) (unlessAt-pass (lowest bad (length cs)) Event Pass e .0) j lt)
+      (nowhere bad (length cs) (unlessAt-pass (lowest bad (length cs)) Event Pass e .0) j lt)
 
 -- ---- the chain
 
@@ -162,7 +129,7 @@ module _ (threads : ℕ) (thread kind : List ℕ) (sample : List ℤ) (cs : List
 
   -- where the lists of the history go together, the table's tests come first, then the events
   pub chain-together : length xs ≡ length cs → judgeRefusal threads thread kind sample cs xs ≡ andThen (tableRefusal threads thread kind sample) (eventRefusal thread kind sample cs xs)
-  unfolding judgeRefusal tableRefusal
+  unfolding judgeRefusal tableRefusal eventRefusal
   chain-together e =
       rw (eq-eqb (length xs) (length cs) e, and-true (together thread kind sample))
       (sym (unless-then (within 1 16 threads) Threads _ _
@@ -172,10 +139,10 @@ module _ (threads : ℕ) (thread kind : List ℕ) (sample : List ℤ) (cs : List
 
   -- what an input that is not refused has
   pub chain-pass : judgeRefusal threads thread kind sample cs xs ≡ Pass → (length xs ≡ length cs) × (eventRefusal thread kind sample cs xs ≡ Pass)
-  unfolding judgeRefusal
+  unfolding judgeRefusal eventRefusal
   chain-pass e =
       let a = unless-pass (within 1 16 threads) Threads _ e in
       let b = unless-pass (together thread kind sample && eqb (length xs) (length cs)) Lengths _ (a .1) in
       let c = unless-pass (leb (length thread) 128) Operations _ (b .1) in
       let d = unlessAt-pass (lowest (unfitAt threads thread kind sample) (length thread)) Operation _ (c .1) in
-      (eqb-true (length xs) (length cs) (and-both (together thread kind sample) (eqb (length xs) (length cs)) (b .0) .1), d .1)
+      (eqb-true (length xs) (length cs) (both-true (together thread kind sample) (eqb (length xs) (length cs)) (b .0) .1), d .1)

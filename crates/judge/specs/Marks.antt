@@ -6,6 +6,8 @@
 --   Read               how far a history was read, and its marks
 --   Free20 .. PlaysOn  the five conditions over the marks
 --   Finds              the first fault, by them
+--   eventRefusal       refusal 10 at the lowest event that cannot stand, or none
+--   orElse             the refusal; the verdict, if there is none
 --   historyJudged      the answer for a table that passes
 --   window, queueOf    the samples that a queue holds, the front first
 use mathlib.Core.Path.{_≡_}
@@ -15,17 +17,24 @@ use mathlib.Core.List.{List, [], _∷_, _++_}
 use Prim.Native.Nat.{ℕ, zero, suc, _+_, _*_, _/_, _%_, _≤_, _<_}
 use lib.IntN.{ℤ, pos}
 use lib.ListN.{length, getD}
+use Rattle.limits.specs.declared.Refusal.the-variants.{Event}
+use Rattle.limits.specs.declared.Fit.{Fit}
+use Rattle.limits.specs.declared.Fit.the-variants.{Pass}
+use Rattle.limits.specs.Lists.{lowest}
 use Rattle.limits.specs.Operations.{kindOf, tableOf}
+use Rattle.limits.specs.Refusals.{unlessAt, byFit}
 use Rattle.linear.specs.declared.Verdict.{Verdict}
 use Rattle.linear.specs.declared.Verdict.the-variants.{Linear, NoOperation, Uncalled, Missing, Turned, Unplayable}
 use Rattle.linear.specs.Conditions.{Plays}
 use Rattle.linear.specs.Verdict.{verdict}
 use Rattle.history.specs.History.{events}
 use Rattle.judge.specs.declared.Judged.{Judged}
+use Rattle.judge.specs.declared.Judged.the-variants.{Says, Refused}
 use Rattle.judge.specs.declared.Reading.{Reading}
 use Rattle.judge.specs.declared.Queue.{Queue}
 use Rattle.judge.specs.Stand.{StandsAt}
-use Rattle.judge.specs.Judge.{eventRefusal, orElse}
+use Rattle.judge.specs.Decide.{stands?}
+use Rattle.judge.specs.Judge.{fails}
 
 pub record Tells (P : Type 0) (b : Bool) : Type 0 where
   pub so : b ≡ true → P
@@ -107,7 +116,7 @@ Gets xs marks o v = (k : ℕ) → getD marks (2 * o + 1) 0 ≡ suc k → getD xs
 
 -- 24: a queue that holds q plays the order
 abbrev pub PlaysOn : List ℕ → List ℤ → List ℤ → List ℕ → List ℤ → List ℕ → Type 0
-PlaysOn kind sample xs marks q l = Plays (λ o. kindOf (getD kind o 0)) (λ o. getD sample o (pos 0)) (Gets xs marks) q l
+PlaysOn kind sample xs marks q l = Plays (λ o. kindOf (getD kind o 0)) (λ o. getD sample o (pos 0)) (Gets xs marks) (λ r. Unit {0}) q l
 
 -- the first fault
 abbrev pub Finds : List ℕ → List ℤ → List ℤ → List ℕ → List ℕ → Verdict → Type 0
@@ -125,6 +134,13 @@ pub record Playing (kind : List ℕ) (sample xs : List ℤ) (marks l : List ℕ)
   pub inside : Inside marks xs
   pub numbers : Below (length kind) l
   pub few : length l ≤ 128
+
+unfoldable pub eventRefusal : List ℕ → List ℕ → List ℤ → List ℕ → List ℤ → Fit
+eventRefusal thread kind sample codes samples =
+    unlessAt (lowest (λ i. fails (stands? (tableOf thread kind sample) codes samples i)) (length codes)) Event Pass
+
+abbrev pub orElse : Fit → Verdict → Judged
+orElse fit v = byFit fit (Says v) Refused
 
 -- what is answered once the table and the lengths have passed
 abbrev pub historyJudged : List ℕ → List ℕ → List ℤ → List ℕ → List ℤ → List ℕ → Judged

@@ -1,7 +1,7 @@
 -- Laws of the searches and tests of this crate: what one turn of a search does, and signed numbers told apart by their bits. Assumes nothing.
 use mathlib.Core.Path.{_≡_, refl, sym, ap, _∙_}
 use mathlib.Core.Bool.{Bool, true, false, cond, _&&_, false≢true}
-use mathlib.Core.List.{List, [], _∷_}
+use mathlib.Core.List.{List}
 use Prim.Native.Nat.{ℕ, zero, suc, _+_, _-_, _≤_, _<_, _^_}
 use native.Mathlib.Omega.{arith}
 use lib.Dec.{eqb, lit<}
@@ -13,14 +13,14 @@ use mir.Syntax.{w32}
 use mir.Val.{SFits, toZ, ofZ}
 use lib.Signed.{mag}
 use borrow.Author.Tests.{eqb-true, eq-eqb, ne-eqb, le-leb, lt-leb}
-use Rattle.limits.specs.declared.Place.{Place}
 use Rattle.limits.specs.declared.Place.the-variants.{At, Nowhere}
 use Rattle.limits.specs.declared.Refusal.the-variants.{Threads, Slots, Lengths, Operations, Operation, Puts, Schedule, Entry}
 use Rattle.limits.specs.declared.Fit.{Fit}
 use Rattle.limits.specs.declared.Fit.the-variants.{Pass, Refused}
 use Rattle.limits.specs.Lists.{lowestFrom, lowest}
-use Rattle.limits.specs.Operations.{putsIn}
-use Rattle.limits.specs.Refusals.{isZero, unlessAt, within, together, unfitAt, strayAt, scheduleRefusal, tableRefusal, inputRefusal}
+use Rattle.limits.specs.Operations.{inputOf, putsIn}
+use Rattle.limits.specs.Refusals.{isZero, unlessAt, within, together, unfitAt, inputRefusal}
+use Rattle.limits.specs.Parts.{strayAt, scheduleRefusal, tableRefusal}
 
 module _ (p : ℕ → Bool) (i n : ℕ) where
   -- the search ends at the first number that p holds of
@@ -123,7 +123,7 @@ module _ (threads : ℕ) (thread kind : List ℕ) (sample : List ℤ) where
 
 module _ (threads slots : ℕ) (thread kind : List ℕ) (sample : List ℤ) (schedule : List ℕ) where
   abbrev entered : Fit
-  entered = inputRefusal threads slots thread kind sample schedule
+  entered = inputRefusal (inputOf threads slots thread kind sample schedule)
 
   pub input-threads : within 1 16 threads ≡ false → entered ≡ Refused Threads
   unfolding inputRefusal
@@ -143,7 +143,7 @@ module _ (threads slots : ℕ) (thread kind : List ℕ) (sample : List ℤ) (sch
 
   pub input-by : within 1 16 threads ≡ true → within 1 64 slots ≡ true → together thread kind sample ≡ true → length thread ≤ 128
       → entered ≡ unlessAt (lowest (unfitAt threads thread kind sample) (length thread)) Operation (scheduleRefusal threads slots kind schedule)
-  unfolding inputRefusal
+  unfolding inputRefusal scheduleRefusal
   input-by a b d k = rw (a, b, d, le-leb (length thread) 128 k)
 
 -- lists that go together are of one length

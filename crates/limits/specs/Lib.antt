@@ -1,3 +1,4 @@
 pub mod Lists
 pub mod Operations
 pub mod Refusals
+pub mod Parts

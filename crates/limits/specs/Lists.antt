@@ -2,12 +2,14 @@
 --   All P l      every entry of l has P
 --   Mem a l      a is an entry of l
 --   Pw R l       each entry of l has R to each that stands after it
+--   over vs l    the list l with its first entries overwritten by vs: those after them are as they were
 --   lowest p n   the lowest number below n that p holds of, or nowhere
 use mathlib.Core.Path.{_≡_}
-use mathlib.Core.Bool.{Bool, true, false, cond}
+use mathlib.Core.Bool.{Bool, cond}
 use mathlib.Core.Logic.{_⊎_}
-use mathlib.Core.List.{List, [], _∷_}
+use mathlib.Core.List.{List, [], _∷_, _++_}
 use Prim.Native.Nat.{ℕ, zero, suc}
+use lib.ListN.{length, drop}
 use Rattle.limits.specs.declared.Place.{Place}
 use Rattle.limits.specs.declared.Place.the-variants.{At, Nowhere}
 
@@ -23,6 +25,9 @@ module _ {A : Type 0} where
   abbrev pub Pw : (A → A → Type 0) → List A → Type 0
   Pw R [] = Unit {0}
   Pw R (x ∷ l) = All (R x) l × Pw R l
+
+  abbrev pub over : List A → List A → List A
+  over vs l = vs ++ drop (length vs) l
 
 -- the lowest of the n numbers from k on that p holds of
 unfoldable pub lowestFrom : (ℕ → Bool) → ℕ → ℕ → Place

@@ -6,8 +6,9 @@ ghost use lib.Dec.{leb};
 ghost use lib.IntN.{ℤ, pos};
 ghost use lib.ListN.{length, getD};
 ghost use Rattle.limits.specs.Lists.{lowest};
-ghost use Rattle.limits.specs.Operations.{putsIn};
-ghost use Rattle.limits.specs.Refusals.{refusalNumber, refusalDetail, within, isZero, together, unfit, unfitAt, strayAt, tableRefusal, scheduleRefusal, inputRefusal};
+ghost use Rattle.limits.specs.Operations.{inputOf, putsIn};
+ghost use Rattle.limits.specs.Refusals.{refusalTold, within, isZero, together, unfit, unfitAt, inputRefusal};
+ghost use Rattle.limits.specs.Parts.{strayAt, tableRefusal, scheduleRefusal};
 
 // Why an input is refused; a place where the document asks for one.
 pub enum Refusal {
@@ -39,7 +40,7 @@ pub enum Place {
 
 // The document's number of a refusal.
 pub fn number(r: Refusal) -> u8
-    ensures { λ n. ⌜ n ≡ refusalNumber r ⌝ }
+    ensures { λ n. ⌜ n ≡ refusalTold r .0 ⌝ }
 {
     match r {
         Refusal::Threads => 1,
@@ -59,7 +60,7 @@ pub fn number(r: Refusal) -> u8
 
 // The document's detail of a refusal.
 pub fn detail(r: Refusal) -> usize
-    ensures { λ n. ⌜ n ≡ refusalDetail r ⌝ }
+    ensures { λ n. ⌜ n ≡ refusalTold r .1 ⌝ }
 {
     match r {
         Refusal::Threads => 0,
@@ -209,7 +210,7 @@ pub fn check_input(
     sample: &[i32],
     schedule: &[u8],
 ) -> Fit
-    ensures { λ r. ⌜ r ≡ inputRefusal threads slots (now (thread .entry)) (now (kind .entry)) (now (sample .entry)) (now (schedule .entry)) ⌝ }
+    ensures { λ r. ⌜ r ≡ inputRefusal (inputOf threads slots (now (thread .entry)) (now (kind .entry)) (now (sample .entry)) (now (schedule .entry))) ⌝ }
 {
     if !is_within(1, 16, threads) {
         return Fit::Refused(Refusal::Threads);

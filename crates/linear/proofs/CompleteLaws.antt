@@ -17,12 +17,12 @@ use Rattle.linear.proofs.LineLaws.{names, line, lined, line-calls, line
 use Rattle.linear.proofs.SoundLaws.{Agrees}
 
 -- a legal line is played, its answers agreeing with the history
-played : (T : Table) (h : List Event) (m : List (ℕ × Option ℤ)) (q : List ℤ) → Legal T q (line m) → All (Agrees h) m → Plays (T .kind) (T .sample) (MayGet h) q (names m)
+played : (T : Table) (h : List Event) (m : List (ℕ × Option ℤ)) (q : List ℤ) → Legal T q (line m) → All (Agrees h) m → Plays (T .kind) (T .sample) (MayGet h) (λ r. Unit {0}) q (names m)
 played T h [] q le ag = tt
 played T h (x ∷ m) q le ag = go (T .kind (x .0)) (le .1) (played T h m (le .0) (le .2) (ag .1))
   where
-    go : (k : Kind) → Serves k (T .sample (x .0)) q (x .1) (le .0) → Plays (T .kind) (T .sample) (MayGet h) (le .0) (names m)
-        → PlaysAt k (T .sample (x .0)) (MayGet h (x .0)) q (λ r. Plays (T .kind) (T .sample) (MayGet h) r (names m))
+    go : (k : Kind) → Serves k (T .sample (x .0)) q (x .1) (le .0) → Plays (T .kind) (T .sample) (MayGet h) (λ r. Unit {0}) (le .0) (names m)
+        → PlaysAt k (T .sample (x .0)) (MayGet h (x .0)) q (λ r. Plays (T .kind) (T .sample) (MayGet h) (λ r. Unit {0}) r (names m))
     go putting sv p = rw (sv .1) at p
     go taking sv p = rw (sv .2) (λ a j. ag .0 a j ∙ sv .1, p)
 

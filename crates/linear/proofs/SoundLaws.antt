@@ -29,12 +29,12 @@ module _ (T : Table) (h : List Event) (so : Sound T h) where
     pub agree : All (Agrees h) m
 
   -- the queue gives each operation its answer
-  pub answers : (l : List ℕ) (q : List ℤ) → Plays (T .kind) (T .sample) (MayGet h) q l → Answers q l
+  pub answers : (l : List ℕ) (q : List ℤ) → Plays (T .kind) (T .sample) (MayGet h) (λ r. Unit {0}) q l → Answers q l
   answers [] q p = record { m = []; named = refl; legal = tt; agree = tt }
   answers (o ∷ l) q p = go (T .kind o) refl q p (answers l)
     where
-      go : (k : Kind) → T .kind o ≡ k → (q : List ℤ) → PlaysAt k (T .sample o) (MayGet h o) q (λ r. Plays (T .kind) (T .sample) (MayGet h) r l)
-          → ((r : List ℤ) → Plays (T .kind) (T .sample) (MayGet h) r l → Answers r l) → Answers q (o ∷ l)
+      go : (k : Kind) → T .kind o ≡ k → (q : List ℤ) → PlaysAt k (T .sample o) (MayGet h o) q (λ r. Plays (T .kind) (T .sample) (MayGet h) (λ r. Unit {0}) r l)
+          → ((r : List ℤ) → Plays (T .kind) (T .sample) (MayGet h) (λ r. Unit {0}) r l → Answers r l) → Answers q (o ∷ l)
       go putting e q p ih =
           let a = ih (q ++ (T .sample o ∷ [])) p in
           record { m = (o, none) ∷ a .m; named = ap (λ n. o ∷ n) (a .named); legal = rw e (q ++ (T .sample o ∷ []), (refl, refl), a .legal); agree = (λ w n. so .silent o w n e, a .agree) }

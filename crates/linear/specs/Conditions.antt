@@ -1,7 +1,7 @@
 -- The five conditions on a proposed order (document 01, 'The judge'). Assumes nothing.
 -- Each is stated as what an order has that is free of the fault; an order is a list of operation numbers.
 --   MayGet h o v    o, if it has returned, returned v
---   Plays           a plain queue that holds q, the front first, plays the order
+--   Plays           a plain queue that holds q, the front first, plays the order, and what it holds at last has End
 --   Not20 .. Not24  the order is free of the fault of that number
 use mathlib.Core.Path.{_≡_}
 use mathlib.Core.Logic.{_≢_}
@@ -22,9 +22,9 @@ PlaysAt putting x Get q Next = Next (q ++ (x ∷ []))
 PlaysAt taking x Get [] Next = ⊥
 PlaysAt taking x Get (v ∷ q) Next = Get v × Next q
 
-abbrev pub Plays : (ℕ → Kind) → (ℕ → ℤ) → (ℕ → ℤ → Type 0) → List ℤ → List ℕ → Type 0
-Plays kind sample Get q [] = Unit {0}
-Plays kind sample Get q (o ∷ l) = PlaysAt (kind o) (sample o) (Get o) q (λ r. Plays kind sample Get r l)
+abbrev pub Plays : (ℕ → Kind) → (ℕ → ℤ) → (ℕ → ℤ → Type 0) → (List ℤ → Type 0) → List ℤ → List ℕ → Type 0
+Plays kind sample Get End q [] = End q
+Plays kind sample Get End q (o ∷ l) = PlaysAt (kind o) (sample o) (Get o) q (λ r. Plays kind sample Get End r l)
 
 -- 20: an entry is no operation number, or stands twice
 abbrev pub Not20 : Table → List ℕ → Type 0
@@ -43,6 +43,6 @@ abbrev pub Not23 : List Event → List ℕ → Type 0
 Not23 h l = Pw (λ b a. ¬ Precedes h a b) l
 
 -- 24: on a plain queue that starts empty, a take meets no sample, or a returned take meets another sample than it returned.
--- An unreturned take gets what is at the front
+-- An unreturned take gets what is at the front, and anything may stay in the queue
 abbrev pub Not24 : Table → List Event → List ℕ → Type 0
-Not24 T h l = Plays (T .kind) (T .sample) (MayGet h) [] l
+Not24 T h l = Plays (T .kind) (T .sample) (MayGet h) (λ r. Unit {0}) [] l

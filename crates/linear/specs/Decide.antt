@@ -102,9 +102,9 @@ module _ (kind : ℕ → Kind) (sample : ℕ → ℤ) (Get : ℕ → ℤ → Typ
   plays-at? taking x o [] Next d = no (λ e. e)
   plays-at? taking x o (v ∷ q) Next d = both? (g o v) (d q)
 
-  abbrev pub plays? : (l : List ℕ) (q : List ℤ) → Dec (Plays kind sample Get q l)
+  abbrev pub plays? : (l : List ℕ) (q : List ℤ) → Dec (Plays kind sample Get (λ r. Unit {0}) q l)
   plays? [] q = yes tt
-  plays? (o ∷ l) q = plays-at? (kind o) (sample o) o q (λ r. Plays kind sample Get r l) (plays? l)
+  plays? (o ∷ l) q = plays-at? (kind o) (sample o) o q (λ r. Plays kind sample Get (λ r. Unit {0}) r l) (plays? l)
 
 unfoldable pub not20? : (T : Table) (l : List ℕ) → Dec (Not20 T l)
 not20? T l = both? (all? (λ o. decLt o (T .size)) l) (pw? (λ a b. not? (ℕ-discrete a b)) l)

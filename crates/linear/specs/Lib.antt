@@ -1,4 +1,5 @@
 pub mod Conditions
 pub mod Decide
 pub mod Verdict
+pub mod Numbers
 pub mod Linear

@@ -1,7 +1,6 @@
 -- The verdict on a proposed order (document 01, 'The judge'). Assumes nothing.
---   verdictNumber   the document's number of each verdict
---   unlessSo        the fault, unless the order is free of it
---   verdict         0, or the first of the five that holds of the whole order
+--   unlessSo   the fault, unless the order is free of it
+--   verdict    0, or the first of the five that holds of the whole order
 use mathlib.Core.List.{List}
 use Prim.Native.Nat.{ℕ}
 use Rattle.limits.specs.Operations.{Table}
@@ -9,14 +8,6 @@ use Rattle.history.specs.History.{Event}
 use Rattle.linear.specs.declared.Verdict.{Verdict}
 use Rattle.linear.specs.declared.Verdict.the-variants.{Linear, NoOperation, Uncalled, Missing, Turned, Unplayable}
 use Rattle.linear.specs.Decide.{not20?, not21?, not22?, not23?, not24?}
-
-abbrev pub verdictNumber : Verdict → ℕ
-verdictNumber Linear = 0
-verdictNumber NoOperation = 20
-verdictNumber Uncalled = 21
-verdictNumber Missing = 22
-verdictNumber Turned = 23
-verdictNumber Unplayable = 24
 
 abbrev pub unlessSo : {P : Type 0} → Dec P → Verdict → Verdict → Verdict
 unlessSo (yes _) fault rest = rest

@@ -1,6 +1,6 @@
 // Verdicts on a proposed order, and what a linearization is: definitions and laws. The judge itself is the crate `judge`.
 ghost use mathlib.Core.Path.{_≡_};
-ghost use Rattle.linear.specs.Verdict.{verdictNumber};
+ghost use Rattle.linear.specs.Numbers.{verdictNumber};
 
 // What the judge says of an order: that it is a linearization, or the first fault of the whole order.
 pub enum Verdict {

@@ -15,7 +15,7 @@ use Rattle.numerals.specs.Samples.{sampleText}
 use Rattle.numerals.proofs.PrintLaws.{decimal-short}
 use Rattle.numerals.proofs.SampleLaws.{sample-short}
 use Rattle.limits.specs.declared.Refusal.{Refusal}
-use Rattle.limits.specs.Refusals.{refusalNumber, refusalDetail}
+use Rattle.limits.specs.Refusals.{refusalTold}
 use Rattle.limits.specs.Operations.{Kind, putting, taking, tableOf}
 use Rattle.history.specs.History.{ret, answer}
 use Rattle.history.proofs.CodeLaws.{by-parity}
@@ -23,8 +23,8 @@ use Rattle.machine.specs.declared.Phase.{Phase}
 use Rattle.machine.specs.declared.Phase.the-variants.{Rest, CalledPut, Reserved, Stored, CalledTake, Scanning, Holding}
 use Rattle.machine.specs.Bench.{Empty, Filled}
 use Rattle.run.specs.declared.Summary.{Summary}
-use Rattle.lines.specs.Lines.{line, eventLine, orderLine, slotLine, threadLine, countLine, countLines, refusedLine}
-use Rattle.numerals.specs.Words.{bytes}
+use Rattle.lines.specs.Lines.{eventLine, orderLine, slotLine, threadLine, countLine, countLines, refusedLine}
+use Rattle.numerals.specs.Words.{bytes, line}
 use Rattle.lines.specs.Twins.{eventBy, slotBy, phaseText}
 use Rattle.lines.proofs.LineLaws.{thread-parts}
 
@@ -118,9 +118,9 @@ pub back-low : (n : ℕ) → n ≤ 18446744073709551615 → length (line (bytes 
 back-low n fits = omega (arith, number-end n, decimal-short 19 n (omega arith))
 
 -- the line of a refusal whose detail fits 64 bits is a short one
-pub refused-short : (r : Refusal) → refusalNumber r ≤ 255 → refusalDetail r ≤ 18446744073709551615 → length (refusedLine r) ≤ 64
+pub refused-short : (r : Refusal) → refusalTold r .0 ≤ 255 → refusalTold r .1 ≤ 18446744073709551615 → length (refusedLine r) ≤ 64
 unfolding refusedLine
 refused-short r small fits =
-    let n = decimal (refusalNumber r) in
-    let d = decimal (refusalDetail r) in
-    omega (arith, length-append n (9 ∷ (d ++ (10 ∷ []))), length-append d (10 ∷ []), decimal-short 2 (refusalNumber r) (omega arith), decimal-short 19 (refusalDetail r) (omega arith))
+    let n = decimal (refusalTold r .0) in
+    let d = decimal (refusalTold r .1) in
+    omega (arith, length-append n (9 ∷ (d ++ (10 ∷ []))), length-append d (10 ∷ []), decimal-short 2 (refusalTold r .0) (omega arith), decimal-short 19 (refusalTold r .1) (omega arith))

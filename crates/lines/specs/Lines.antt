@@ -1,60 +1,45 @@
 -- The lines of a listing, from a run's result (document 01, 'Runs worked by hand', the listing of run A and what follows it). Assumes nothing.
---   line fs             the fields fs, parted by one tab (byte 9) and ended by a line feed (byte 10)
 --   linesFrom f i l     a line for each entry of l, the entries numbered from i on
---   answerFields        what a return shows after its operation: a take's sample, and nothing of a put
 --   eventLine           kind and operation of an event, and a sample where a take returns
 --   orderLine           an operation of the listed order
---   slotField, slotLine a slot's sample or `empty`; its number before that
+--   slotLine            a slot's number, and its sample or `empty`
 --   phaseFields         the phase's word and, for phases 2, 5 and 6, the number the phase shows: slot, next slot (not b), sample
 --   threadLine          a thread's number before that
 --   countLine           a count's name and number
 --   listingOf           the whole listing of a summary and a bench: back, events, order, slots, threads, counts
 --   refusedLine         the one line that refused input gets: number and detail
 use mathlib.Core.List.{List, [], _∷_, _++_}
-use mathlib.Core.Option.{Option, none, some}
+use mathlib.Core.Option.{none, some}
 use Prim.Native.Nat.{ℕ, suc}
-use lib.IntN.{ℤ}
 use Rattle.numerals.specs.Decimal.{decimal}
 use Rattle.numerals.specs.Samples.{sampleText}
 use Rattle.limits.specs.declared.Refusal.{Refusal}
-use Rattle.limits.specs.Refusals.{refusalNumber, refusalDetail}
+use Rattle.limits.specs.Refusals.{refusalTold}
 use Rattle.history.specs.History.{Event, call, ret}
 use Rattle.machine.specs.declared.Phase.{Phase}
 use Rattle.machine.specs.declared.Phase.the-variants.{Rest, CalledPut, Reserved, Stored, CalledTake, Scanning, Holding}
 use Rattle.machine.specs.Bench.{Bench, Slot, Empty, Filled}
 use Rattle.machine.specs.Shown.{order}
 use Rattle.run.specs.declared.Summary.{Summary}
-use Rattle.numerals.specs.Words.{bytes}
+use Rattle.numerals.specs.Words.{bytes, line}
 
-abbrev pub line : List (List ℕ) → List ℕ
-line [] = 10 ∷ []
-line (f ∷ []) = f ++ (10 ∷ [])
-line (f ∷ g ∷ fs) = f ++ (9 ∷ line (g ∷ fs))
+unfoldable pub linesFrom : {A : Type 0} → (ℕ → A → List ℕ) → ℕ → List A → List ℕ
+linesFrom f i [] = []
+linesFrom f i (x ∷ l) = f i x ++ linesFrom f (suc i) l
 
-module _ {A : Type 0} where
-  unfoldable pub linesFrom : (ℕ → A → List ℕ) → ℕ → List A → List ℕ
-  linesFrom f i [] = []
-  linesFrom f i (x ∷ l) = f i x ++ linesFrom f (suc i) l
-
--- a put's return has none
-abbrev pub answerFields : Option ℤ → List (List ℕ)
-answerFields none = []
-answerFields (some x) = sampleText x ∷ []
-
+-- a put's return has no sample
 abbrev pub eventLine : Event → List ℕ
 eventLine (call o) = line (bytes "event" ∷ bytes "call" ∷ decimal o ∷ [])
-eventLine (ret o a) = line (bytes "event" ∷ bytes "return" ∷ decimal o ∷ answerFields a)
+eventLine (ret o none) = line (bytes "event" ∷ bytes "return" ∷ decimal o ∷ [])
+eventLine (ret o (some x)) = line (bytes "event" ∷ bytes "return" ∷ decimal o ∷ sampleText x ∷ [])
 
 abbrev pub orderLine : ℕ → List ℕ
 orderLine o = line (bytes "order" ∷ decimal o ∷ [])
 
 -- an empty slot is a state of its own: 0 is a sample
-abbrev pub slotField : Slot → List ℕ
-slotField Empty = bytes "empty"
-slotField (Filled x) = sampleText x
-
 abbrev pub slotLine : ℕ → Slot → List ℕ
-slotLine i s = line (bytes "slot" ∷ decimal i ∷ slotField s ∷ [])
+slotLine i Empty = line (bytes "slot" ∷ decimal i ∷ bytes "empty" ∷ [])
+slotLine i (Filled x) = line (bytes "slot" ∷ decimal i ∷ sampleText x ∷ [])
 
 abbrev pub phaseFields : Phase → List (List ℕ)
 phaseFields Rest = bytes "rest" ∷ []
@@ -86,4 +71,4 @@ listingOf s B =
     ++ countLines s))))
 
 unfoldable pub refusedLine : Refusal → List ℕ
-refusedLine r = line (bytes "refused" ∷ decimal (refusalNumber r) ∷ decimal (refusalDetail r) ∷ [])
+refusedLine r = line (bytes "refused" ∷ decimal (refusalTold r .0) ∷ decimal (refusalTold r .1) ∷ [])

@@ -12,7 +12,8 @@ use Rattle.limits.specs.Operations.{kindOf, tableOf}
 use Rattle.history.specs.History.{ret, answer, eventOf}
 use Rattle.machine.specs.declared.Phase.{Phase}
 use Rattle.machine.specs.Bench.{Empty, Filled}
-use Rattle.lines.specs.Lines.{line, eventLine, slotLine, phaseFields}
+use Rattle.numerals.specs.Words.{line}
+use Rattle.lines.specs.Lines.{eventLine, slotLine, phaseFields}
 
 abbrev pub eventBy : List ℕ → ℕ → ℤ → List ℕ
 eventBy kind c x = eventLine (eventOf (tableOf [] kind []) c x)

@@ -8,22 +8,24 @@ use native.Mathlib.Omega.{arith}
 use lib.Dec.{eqb}
 use lib.IntN.{ℤ, pos}
 use lib.ListN.{length, getD, drop, replicate, length-map, List·getD-map, List·getD-append}
-use Rattle.limits.specs.Operations.{Table, tableOf}
+use Rattle.limits.specs.Operations.{Table, tableOf, Input, inputOf}
 use Rattle.limits.specs.declared.Fit.the-variants.{Pass}
 use Rattle.limits.specs.Refusals.{inputRefusal}
-use Rattle.limits.proofs.PassLaws.{Passed, input-passed}
+use Rattle.limits.proofs.PassLaws.{input-passed}
 use Rattle.history.specs.History.{Event, call, ret, codeOf, beside, answer, eventOf}
 use Rattle.history.proofs.HistoryLaws.{Right}
 use Rattle.history.proofs.CodeLaws.{event-call, event-ret}
-use Rattle.history.proofs.PrecedenceLists.{all-of-getD, all-getD}
+use Rattle.history.proofs.PrecedenceLists.{all-getD}
 use Rattle.machine.specs.declared.ThreadRecord.{ThreadRecord}
-use Rattle.machine.specs.Bench.{Bench, Slot, Empty, Filled, idler}
-use Rattle.machine.specs.Shown.{codes, samples, order, mark, held, recordOf, records}
-use Rattle.machine.proofs.RunLaws.{Run, run-played, puts-fit, workers-length, slots-length, history-right}
-use Rattle.run.specs.Run.{benchAfter, summaryOf, restRecord, recordsAfter}
-use Rattle.lines.specs.Lines.{line, linesFrom, eventLine, orderLine, slotLine, threadLine, countLines, listingOf}
+use Rattle.machine.specs.Bench.{Bench, Slot, Empty, Filled, Worker, idler}
+use Rattle.machine.specs.Shown.{codes, samples, order, mark, held, records}
+use Rattle.machine.proofs.RunLaws.{Run, workers-length, slots-length, history-right}
+use Rattle.run.specs.Run.{benchAfter, summaryOf}
+use Rattle.run.proofs.PassedLaws.{passed-run}
+use Rattle.run.specs.Core.{restRecord, recordsAfter}
+use Rattle.lines.specs.Lines.{linesFrom, eventLine, orderLine, slotLine, threadLine, countLines, listingOf}
 use Rattle.listing.specs.Listing.{listingText}
-use Rattle.numerals.specs.Words.{bytes}
+use Rattle.numerals.specs.Words.{bytes, line}
 use Rattle.listing.specs.Twins.{upto, eventAt, orderAt, slotAt, threadAt, listingBy}
 use Rattle.numerals.specs.Decimal.{decimal}
 
@@ -79,17 +81,18 @@ mapped-at f l rest d i lt = List·getD-append (map f l) rest (f d) i (rw (length
 
 -- ---- the whole
 
-module _ (threads slots : ℕ) (thread kind : List ℕ) (sample : List ℤ) (schedule : List ℕ) (pass : inputRefusal threads slots thread kind sample schedule ≡ Pass) where
+module _ (threads slots : ℕ) (thread kind : List ℕ) (sample : List ℤ) (schedule : List ℕ) (pass : inputRefusal (inputOf threads slots thread kind sample schedule) ≡ Pass) where
+  abbrev asked : Input
+  asked = inputOf threads slots thread kind sample schedule
+
   abbrev T : Table
   T = tableOf thread kind sample
 
   abbrev B : Bench
-  B = benchAfter threads slots thread kind sample schedule
+  B = benchAfter asked
 
   run : Run T threads slots B
-  run =
-      let p : Passed threads slots thread kind sample schedule = input-passed threads slots thread kind sample schedule pass in
-      run-played T threads slots (puts-fit thread kind sample (p .kinds) slots (p .puts)) schedule (all-of-getD (λ t. t < threads) schedule 0 (p .named))
+  run = passed-run asked (input-passed asked pass)
 
   -- cs, vs, os, ms and hs are what stands after the run's entries in the lists
   module _ (cs : List ℕ) (vs : List ℤ) (os ms : List ℕ) (hs : List ℤ) where
@@ -114,12 +117,12 @@ module _ (threads slots : ℕ) (thread kind : List ℕ) (sample : List ℤ) (sch
         let e = workers-length T threads slots B run in
         lines-by (λ t w. threadLine t (w .phase)) idler (threadAt (records B ++ drop threads (replicate 16 restRecord))) threads (B .workers) e
         (λ i lt. let low : i < length (B .workers) = omega arith in
-        ap (λ (r : ThreadRecord). threadLine i (r .phase)) (mapped-at recordOf (B .workers) (drop threads (replicate 16 restRecord)) idler i low))
+        ap (λ (r : ThreadRecord). threadLine i (r .phase)) (mapped-at (λ (w : Worker). record { phase = w .phase }) (B .workers) (drop threads (replicate 16 restRecord)) idler i low))
 
-    pub listing-same : listingBy (summaryOf threads slots thread kind sample schedule) (recordsAfter Pass threads B) threads slots kind
+    pub listing-same : listingBy (summaryOf asked) (recordsAfter Pass threads B) threads slots kind
         (codes B ++ cs) (samples B ++ vs) (order B ++ os) (map mark (B .slots) ++ ms) (map held (B .slots) ++ hs)
-        ≡ listingText threads slots thread kind sample schedule
+        ≡ listingText asked
     unfolding listingBy listingText listingOf summaryOf
     listing-same =
-        let s = summaryOf threads slots thread kind sample schedule in
+        let s = summaryOf asked in
         λ i. line (bytes "back" ∷ decimal (s .back) ∷ []) ++ (event-lines i ++ (order-lines i ++ (slot-lines i ++ (thread-lines i ++ countLines s))))

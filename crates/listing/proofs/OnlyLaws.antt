@@ -6,10 +6,10 @@ use Prim.Native.Nat.{ℕ, _≤_}
 use native.Mathlib.Omega.{arith}
 use borrow.Author.Tests.{le-leb}
 use lib.Dec.{leb}
-use lib.IntN.{ℤ}
 use lib.ListN.{length, drop}
 use Rattle.limits.specs.declared.Refusal.{Refusal}
 use Rattle.limits.specs.declared.Fit.the-variants.{Pass}
+use Rattle.limits.specs.Operations.{Input}
 use Rattle.limits.specs.Refusals.{inputRefusal}
 use Rattle.listing.specs.declared.Listing.{Listing}
 use Rattle.listing.specs.declared.Listing.the-variants.{Bytes}
@@ -27,18 +27,18 @@ refusal-fits refusal text r a room says =
     let b : leb (length (refusedLine refusal)) (length text) ≡ true = le-leb (length (refusedLine refusal)) (length text) (omega (arith, says .short)) in
     (rw b at (says .answer), rw b at (says .bytes))
 
-module _ (threads slots : ℕ) (thread kind : List ℕ) (sample : List ℤ) (schedule text : List ℕ) where
-  pub list-only : (r s : Listing) (a b : List ℕ) → ListSays threads slots thread kind sample schedule text r a → ListSays threads slots thread kind sample schedule text s b
+module _ (i : Input) (text : List ℕ) where
+  pub list-only : (r s : Listing) (a b : List ℕ) → ListSays i text r a → ListSays i text s b
       → (r ≡ s) × (a ≡ b)
   list-only r s a b p q = (p .answer ∙ sym (q .answer), p .bytes ∙ sym (q .bytes))
 
   -- the listing of an accepted input is written whole into every text of 12,288 bytes
-  pub list-fits : (r : Listing) (a : List ℕ) → inputRefusal threads slots thread kind sample schedule ≡ Pass → 12288 ≤ length text
-      → ListSays threads slots thread kind sample schedule text r a
-      → (r ≡ Bytes (length (listingText threads slots thread kind sample schedule)))
-      × (a ≡ listingText threads slots thread kind sample schedule ++ drop (length (listingText threads slots thread kind sample schedule)) text)
+  pub list-fits : (r : Listing) (a : List ℕ) → inputRefusal i ≡ Pass → 12288 ≤ length text
+      → ListSays i text r a
+      → (r ≡ Bytes (length (listingText i)))
+      × (a ≡ listingText i ++ drop (length (listingText i)) text)
   unfolding listingFit
   list-fits r a pass room says =
-      let w = listingText threads slots thread kind sample schedule in
+      let w = listingText i in
       let b : leb (length w) (length text) ≡ true = le-leb (length w) (length text) (omega (arith, says .short pass)) in
       (rw (pass, b) at (says .answer), rw (pass, b) at (says .bytes))

@@ -11,6 +11,7 @@ use Rattle.limits.specs.declared.Refusal.{Refusal}
 use Rattle.limits.specs.declared.Refusal.the-variants.{Room as NoRoom}
 use Rattle.limits.specs.declared.Fit.{Fit}
 use Rattle.limits.specs.declared.Fit.the-variants.{Pass, Refused as Unfit}
+use Rattle.limits.specs.Operations.{Input, inputOf}
 use Rattle.limits.specs.Refusals.{inputRefusal, andThen, unless}
 use Rattle.limits.proofs.PassLaws.{Passed, input-passed}
 use Rattle.history.proofs.ListLaws.{clash}
@@ -20,21 +21,14 @@ use Rattle.machine.specs.Shown.{codes, samples, order, mark, held}
 use Rattle.run.specs.declared.Summary.{Summary}
 use Rattle.run.specs.declared.Final.{Final}
 use Rattle.run.specs.declared.Outcome.the-variants.{Ran, Refused}
-use Rattle.run.specs.Run.{Room, roomOf, hasRoom, runFit, benchAfter, summaryOf, answerOf, recordsAfter, RunSays}
+use Rattle.run.specs.Run.{Lists, listsOf, hasRoom, runFit, benchAfter, summaryOf}
+use Rattle.run.specs.Core.{recordsAfter, RunSays}
+use Rattle.run.proofs.FitLaws.{ran-fit, ran-summary}
 use Rattle.listing.specs.declared.Listing.{Listing}
 use Rattle.listing.specs.declared.Listing.the-variants as L
 use Rattle.listing.specs.Listing.{listingText, listingFit, ListSays}
 use Rattle.listing.specs.Twins.{Shown, listingBy, TextSays}
 use Rattle.listing.proofs.ListingLaws.{listing-same}
-
--- an answer tells the fit that it comes from
-answer-refused : (f : Fit) (s : Summary) (r : Refusal) → answerOf f s ≡ Refused r → f ≡ Unfit r
-answer-refused Pass s r e = clash (cc)
-answer-refused (Unfit q) s r e = cc
-
-answer-ran : (f : Fit) (s t : Summary) → answerOf f s ≡ Ran t → (f ≡ Pass) × (t ≡ s)
-answer-ran Pass s t e = (refl, cc)
-answer-ran (Unfit q) s t e = clash (cc)
 
 -- how long the lists are that a listing lends to its run
 pub record Lent (cs : List ℕ) (vs : List ℤ) (os ms : List ℕ) (hs : List ℤ) : Type 0 where
@@ -45,21 +39,24 @@ pub record Lent (cs : List ℕ) (vs : List ℤ) (os ms : List ℕ) (hs : List �
   pub held : length hs ≡ 64
 
 module _ (threads slots : ℕ) (thread kind : List ℕ) (sample : List ℤ) (schedule : List ℕ) where
+  abbrev asked : Input
+  asked = inputOf threads slots thread kind sample schedule
+
   abbrev input : Fit
-  input = inputRefusal threads slots thread kind sample schedule
+  input = inputRefusal asked
 
   abbrev B : Bench
-  B = benchAfter threads slots thread kind sample schedule
+  B = benchAfter asked
 
   abbrev text : List ℕ
-  text = listingText threads slots thread kind sample schedule
+  text = listingText asked
 
   module _ (cs : List ℕ) (vs : List ℤ) (os ms : List ℕ) (hs : List ℤ) (lent : Lent cs vs os ms hs) where
-    abbrev R : Room
-    R = roomOf cs vs os ms hs 16
+    abbrev lists : Lists
+    lists = listsOf cs vs os ms hs
 
     -- an input that passes has room in them
-    roomy : Passed threads slots thread kind sample schedule → hasRoom threads slots (length thread) R ≡ true
+    roomy : Passed asked → hasRoom asked lists 16 ≡ true
     roomy p =
         let c : 2 * length thread ≤ length cs = omega (arith, lent .codes, p .few) in
         let v : 2 * length thread ≤ length vs = omega (arith, lent .values, p .few) in
@@ -69,26 +66,26 @@ module _ (threads slots : ℕ) (thread kind : List ℕ) (sample : List ℤ) (sch
         rw (le-leb (2 * length thread) (length cs) c, le-leb (2 * length thread) (length vs) v, le-leb (length thread) (length os) o, le-leb slots (length ms) m, le-leb slots (length hs) h, le-leb threads 16 (p .threads-most))
 
     -- so the run is refused for nothing but its input
-    pub fit-plain : runFit threads slots thread kind sample schedule R ≡ input
+    pub fit-plain : runFit asked lists 16 ≡ input
     unfolding runFit
     fit-plain = go input refl
       where
-        go : (f : Fit) → input ≡ f → andThen f (unless (hasRoom threads slots (length thread) R) NoRoom Pass) ≡ f
-        go Pass e = rw (roomy (input-passed threads slots thread kind sample schedule e))
+        go : (f : Fit) → input ≡ f → andThen f (unless (hasRoom asked lists 16) NoRoom Pass) ≡ f
+        go Pass e = rw (roomy (input-passed asked e))
         go (Unfit r) e = refl
 
     module _ (cs′ : List ℕ) (vs′ : List ℤ) (os′ ms′ : List ℕ) (hs′ : List ℤ) (f : Final)
         (says : RunSays threads slots thread kind sample schedule 16 cs vs os ms hs cs′ vs′ os′ ms′ hs′ f) where
       -- a refused run has no listing
-      pub list-refused : (t : List ℕ) (r : Refusal) → f .outcome ≡ Refused r → ListSays threads slots thread kind sample schedule t (L.Refused r) t
+      pub list-refused : (t : List ℕ) (r : Refusal) → f .outcome ≡ Refused r → ListSays asked t (L.Refused r) t
       unfolding listingFit
       list-refused t r e =
-          let i : input ≡ Unfit r = sym fit-plain ∙ answer-refused (runFit threads slots thread kind sample schedule R) (summaryOf threads slots thread kind sample schedule) r (sym (says .outcome) ∙ e) in
+          let i : input ≡ Unfit r = sym fit-plain ∙ ran-fit (summaryOf asked) (runFit asked lists 16) (sym e ∙ says .outcome) in
           record { answer = rw i; bytes = rw i; short = λ p. clash (cc) }
 
       module _ (s : Summary) (ran : f .outcome ≡ Ran s) where
-        both : (runFit threads slots thread kind sample schedule R ≡ Pass) × (s ≡ summaryOf threads slots thread kind sample schedule)
-        both = answer-ran (runFit threads slots thread kind sample schedule R) (summaryOf threads slots thread kind sample schedule) s (sym (says .outcome) ∙ ran)
+        both : (runFit asked lists 16 ≡ Pass) × (s ≡ summaryOf asked)
+        both = (ran-fit (summaryOf asked) (runFit asked lists 16) (sym ran ∙ says .outcome), ran-summary (summaryOf asked) (runFit asked lists 16) (sym ran ∙ says .outcome))
 
         passes : input ≡ Pass
         passes = sym fit-plain ∙ both .0
@@ -116,7 +113,7 @@ module _ (threads slots : ℕ) (thread kind : List ℕ) (sample : List ℤ) (sch
         pub list-shown : Lent cs′ vs′ os′ ms′ hs′ → Shown s threads slots (length cs′) (length vs′) (length os′) (length ms′) (length hs′)
         unfolding summaryOf
         list-shown l =
-            let p : Passed threads slots thread kind sample schedule = input-passed threads slots thread kind sample schedule passes in
+            let p : Passed asked = input-passed asked passes in
             let e : s .events ≡ length (B .history) = ap (λ (x : Summary). x .events) (both .1) in
             let o : s .order ≡ length (order B) = ap (λ (x : Summary). x .order) (both .1) in
             let k : length (B .history) ≤ length cs′ = omega (arith, ap length codes-are, length-append (codes B) (drop (length (codes B)) cs), length-map (B .history) codeOf) in
@@ -137,7 +134,7 @@ module _ (threads slots : ℕ) (thread kind : List ℕ) (sample : List ℤ) (sch
 
         -- what was filled is the listing
         pub list-ran : (t t′ : List ℕ) (r : Listing) → TextSays (listingBy s (f .records) threads slots kind cs′ vs′ os′ ms′ hs′) t r t′
-            → length (listingBy s (f .records) threads slots kind cs′ vs′ os′ ms′ hs′) ≤ 12288 → ListSays threads slots thread kind sample schedule t r t′
+            → length (listingBy s (f .records) threads slots kind cs′ vs′ os′ ms′ hs′) ≤ 12288 → ListSays asked t r t′
         unfolding listingFit
         list-ran t t′ r says′ low =
             let w : TextSays text t r t′ = subst (λ (x : List ℕ). TextSays x t r t′) same says′ in

@@ -7,8 +7,9 @@ use lib.IntN.{pos}
 use Rattle.numerals.specs.Decimal.{decimal}
 use Rattle.numerals.specs.Samples.{sampleText}
 use Rattle.machine.specs.Bench.{step, ownFrom, resting, start, played}
-use Rattle.machine.specs.Counts.{over}
+use Rattle.machine.specs.Counts.{counted}
 use Rattle.machine.specs.Shown.{unfound}
+use Rattle.limits.specs.Operations.{inputOf}
 use Rattle.run.specs.Run.{summaryOf}
 use Rattle.order.specs.Order.{merge}
 use Rattle.lines.specs.Lines.{linesFrom, listingOf}
@@ -41,6 +42,6 @@ listingA =
     []
 
 -- 3 threads, 2 slots; put 100 on thread 0, put 0 on thread 1, take on thread 2
-pub run-a : listingText 3 2 (0 ∷ 1 ∷ 2 ∷ []) (1 ∷ 1 ∷ 2 ∷ []) (pos 100 ∷ pos 0 ∷ pos 0 ∷ []) (0 ∷ 0 ∷ 1 ∷ 1 ∷ 1 ∷ 1 ∷ 2 ∷ 2 ∷ 2 ∷ 0 ∷ 2 ∷ 2 ∷ 0 ∷ []) ≡ listingA
-unfolding listingText listingOf linesFrom summaryOf decimal sampleText step ownFrom resting start played over unfound merge ℕ-discrete listingA
+pub run-a : listingText (inputOf 3 2 (0 ∷ 1 ∷ 2 ∷ []) (1 ∷ 1 ∷ 2 ∷ []) (pos 100 ∷ pos 0 ∷ pos 0 ∷ []) (0 ∷ 0 ∷ 1 ∷ 1 ∷ 1 ∷ 1 ∷ 2 ∷ 2 ∷ 2 ∷ 0 ∷ 2 ∷ 2 ∷ 0 ∷ [])) ≡ listingA
+unfolding listingText listingOf linesFrom summaryOf decimal sampleText step ownFrom resting start played counted unfound merge ℕ-discrete listingA
 run-a = refl

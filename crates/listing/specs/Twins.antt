@@ -12,13 +12,15 @@ use lib.IntN.{ℤ, pos}
 use lib.ListN.{length, getD}
 use Rattle.machine.specs.declared.ThreadRecord.{ThreadRecord}
 use Rattle.run.specs.declared.Summary.{Summary}
-use Rattle.run.specs.Run.{lentAfter, restRecord}
+use Rattle.limits.specs.Refusals.{byFit, lentAfter}
+use Rattle.run.specs.Core.{restRecord}
 use Rattle.numerals.specs.Decimal.{decimal}
 use Rattle.listing.specs.declared.Listing.{Listing}
-use Rattle.numerals.specs.Words.{bytes}
-use Rattle.lines.specs.Lines.{line, orderLine, threadLine, countLines}
+use Rattle.numerals.specs.Words.{bytes, line}
+use Rattle.lines.specs.Lines.{orderLine, threadLine, countLines}
 use Rattle.lines.specs.Twins.{eventBy, slotBy}
-use Rattle.listing.specs.Listing.{textFit, listingAs}
+use Rattle.listing.specs.declared.Listing.the-variants.{Bytes, Refused}
+use Rattle.listing.specs.Listing.{textFit}
 
 unfoldable pub upto : (ℕ → List ℕ) → ℕ → List ℕ
 upto g zero = []
@@ -55,5 +57,5 @@ listingBy s records threads slots kind codes values order marks held =
     ++ (upto (slotAt marks held) slots ++ (upto (threadAt records) threads ++ countLines s))))
 
 pub record TextSays (w text : List ℕ) (r : Listing) (text′ : List ℕ) : Type 0 where
-  pub answer : r ≡ listingAs (textFit (length w) (length text)) (length w)
+  pub answer : r ≡ byFit (textFit (length w) (length text)) (Bytes (length w)) Refused
   pub bytes : text′ ≡ lentAfter (textFit (length w) (length text)) w text

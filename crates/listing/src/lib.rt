@@ -3,6 +3,7 @@ ghost use mathlib.Core.Path.{_≡_};
 ghost use Prim.Native.Nat.{ℕ, _≤_};
 ghost use lib.ListN.{length};
 ghost use Rattle.numerals.specs.Places.{Put};
+ghost use Rattle.limits.specs.Operations.{inputOf};
 ghost use Rattle.listing.specs.Listing.{ListSays, RefusalSays};
 ghost use Rattle.listing.specs.Twins.{Shown, listingBy, TextSays};
 
@@ -111,7 +112,7 @@ pub fn list_run(
     schedule: &[u8],
     text: &mut [u8],
 ) -> Listing
-    ensures { λ r. ⌜ ListSays threads slots (now (thread .entry)) (now (kind .entry)) (now (sample .entry)) (now (schedule .entry)) (now (text .entry)) r (now (text .exit)) ⌝ }
+    ensures { λ r. ⌜ ListSays (inputOf threads slots (now (thread .entry)) (now (kind .entry)) (now (sample .entry)) (now (schedule .entry))) (now (text .entry)) r (now (text .exit)) ⌝ }
 {
     let mut codes = [0u16; 256];
     let mut values = [0i32; 256];

@@ -19,7 +19,7 @@ use Rattle.history.proofs.PrecedenceLaws.{precedes-returned, precedes-old, Fres
 use Rattle.order.specs.Order.{foundPuts}
 use Rattle.machine.specs.declared.Phase.{Phase}
 use Rattle.machine.specs.declared.Phase.the-variants.{Rest, CalledPut, Reserved, Stored, CalledTake, Scanning, Holding}
-use Rattle.machine.specs.Bench.{Slot, Empty, Filled, Worker, Bench, back, idler, workerAt, in-phase, firstPhase, calls, reserves, pass, onward, swaps, stepFrom, step, start, played}
+use Rattle.machine.specs.Bench.{Slot, Empty, Filled, Worker, Bench, back, idler, workerAt, in-phase, firstPhase, calls, pass, onward, swaps, stepFrom, step, start, played}
 use Rattle.machine.proofs.WorkingLaws.{Now, working-sound, working-next, working-now, WorkingAt}
 use Rattle.machine.proofs.ScheduleLaws.{played-keeps}
 use Rattle.machine.proofs.SlotLaws.{onward-case, SlottedAt}

@@ -17,9 +17,9 @@ use Rattle.history.proofs.PrecedenceLists.{all-snoc, mem-getD, pw-map-to, sub-l
 use Rattle.order.specs.Order.{foundPuts}
 use Rattle.machine.specs.declared.Phase.{Phase}
 use Rattle.machine.specs.declared.Phase.the-variants.{Rest, CalledPut, Reserved, Stored, CalledTake, Scanning, Holding}
-use Rattle.machine.specs.Bench.{Slot, Empty, Filled, Worker, Bench, back, workerAt, calls, stores, swaps, stepFrom, step}
-use Rattle.machine.specs.Counts.{storeIn, scanIn, met, storeStep, findStep}
-use Rattle.machine.specs.Shown.{mark, filled}
+use Rattle.machine.specs.Bench.{Slot, Empty, Filled, Worker, Bench, back, workerAt, calls, swaps, stepFrom, step}
+use Rattle.machine.specs.StepCounts.{storeIn, scanIn, met, storeStep, findStep, filled}
+use Rattle.machine.specs.Shown.{mark}
 use Rattle.machine.proofs.WorkingLaws.{WorkingAt, working-sound}
 use Rattle.machine.proofs.SlotLaws.{SlottedAt}
 use Rattle.machine.proofs.FindLaws.{FoundAt, found-all, found-pw}

@@ -21,7 +21,7 @@ use Rattle.history.proofs.PrecedenceLaws.{returned-left}
 use Rattle.order.specs.Order.{foundPuts}
 use Rattle.machine.specs.declared.Phase.{Phase}
 use Rattle.machine.specs.declared.Phase.the-variants.{Rest, CalledPut, Reserved, Stored, CalledTake, Scanning, Holding}
-use Rattle.machine.specs.Bench.{Slot, Empty, Filled, Worker, Bench, back, idler, moved, stores, returns, resting, start}
+use Rattle.machine.specs.Bench.{Slot, Empty, Filled, Worker, Bench, back, idler, resting, start}
 use Rattle.machine.proofs.SlotLaws.{SlottedAt}
 
 abbrev pub InPhase : Table → List Worker → ℕ → Phase → Type 0

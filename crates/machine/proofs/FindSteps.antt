@@ -19,7 +19,7 @@ use Rattle.history.proofs.PrecedenceLaws.{called-left, returned-new, returned-c
 use Rattle.order.specs.Order.{foundPuts}
 use Rattle.machine.specs.declared.Phase.{Phase}
 use Rattle.machine.specs.declared.Phase.the-variants.{Rest, CalledPut, Reserved, Stored, CalledTake, Scanning, Holding}
-use Rattle.machine.specs.Bench.{Slot, Empty, Filled, Worker, Bench, back, workerAt, in-phase, moved, firstPhase, calls, stores, pass, onward, swaps, returns, stepFrom, step}
+use Rattle.machine.specs.Bench.{Slot, Empty, Filled, Worker, Bench, back, workerAt, in-phase, moved, firstPhase, calls, pass, onward, swaps, stepFrom, step}
 use Rattle.machine.proofs.WorkingLaws.{Now, WorkingAt, working-now}
 use Rattle.machine.proofs.SlotLaws.{SlottedAt, onward-case}
 use Rattle.machine.proofs.FindLaws.{InPhase, HasStored, Has, Waits, Found, FoundAt, Quiet, found-mem, found-all, found-more, found-last, found-snoc, in-phase-old, in-phase-mine, stored-new, has-new, stored-old, holding-old}

@@ -6,5 +6,6 @@ pub mod FindLaws
 pub mod FindSteps
 pub mod CountLaws
 pub mod RunLaws
+pub mod CountedLaws
 pub mod ChainLaws
 pub mod DemandLaws

@@ -20,8 +20,7 @@ use Rattle.history.proofs.PrecedenceLaws.{stands-length}
 use Rattle.history.proofs.ListLaws.{all-imp}
 use Rattle.machine.specs.declared.Phase.the-variants.{Reserved, Scanning}
 use Rattle.machine.specs.Bench.{Empty, Filled, Bench, back, workerAt, step, start, played}
-use Rattle.machine.specs.Counts.{over, storeStep, findStep}
-use Rattle.machine.specs.Shown.{filled}
+use Rattle.machine.specs.StepCounts.{over, storeStep, findStep, filled}
 use Rattle.machine.proofs.WorkingLaws.{kindAt, Now, PlaceOf, WorkingAt, working-sound, working-now, place-todo}
 use Rattle.machine.proofs.WorkingSteps.{working-start, working-step}
 use Rattle.machine.proofs.ScheduleLaws.{played-keeps}

@@ -8,7 +8,7 @@ use lib.Seq.{take-suc}
 use Rattle.limits.specs.Lists.{All}
 use Rattle.limits.specs.Operations.{Table}
 use Rattle.machine.specs.Bench.{Bench, step, played}
-use Rattle.machine.specs.Counts.{over}
+use Rattle.machine.specs.StepCounts.{over}
 
 -- what every step of a thread keeps, every schedule keeps
 pub played-keeps : (T : Table) (n : ℕ) (I : Bench → Type 0) → ((B : Bench) (t : ℕ) → t < n → I B → I (step T B t))

@@ -19,7 +19,7 @@ use Rattle.history.proofs.PrecedenceLists.{all-snoc, pw-snoc, mem-snoc, set-cas
 use Rattle.history.proofs.PrecedenceLaws.{called-left}
 use Rattle.machine.specs.declared.Phase.{Phase}
 use Rattle.machine.specs.declared.Phase.the-variants.{Rest, CalledPut, Reserved, Stored, CalledTake, Scanning, Holding}
-use Rattle.machine.specs.Bench.{Slot, Empty, Filled, Worker, Bench, back, idler, workerAt, in-phase, firstPhase, calls, reserves, stores, pass, onward, swaps, stepFrom, step, resting, start}
+use Rattle.machine.specs.Bench.{Slot, Empty, Filled, Worker, Bench, back, idler, workerAt, in-phase, firstPhase, calls, pass, onward, swaps, stepFrom, step, resting, start}
 use Rattle.machine.proofs.WorkingLaws.{Now, WorkingAt, working-next, working-now, working-apart}
 
 -- with reservations rs and slots ss, of a thread whose operation is o

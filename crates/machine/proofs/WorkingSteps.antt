@@ -13,13 +13,13 @@ use lib.IntN.{ℤ, pos}
 use lib.ListN.{length, getD, set, length-set}
 use Rattle.limits.specs.Operations.{Kind, putting, taking, Table}
 use Rattle.history.specs.History.{Event, call, ret, Called, Returned, beside, answer}
-use Rattle.history.proofs.HistoryLaws.{Right, standing}
+use Rattle.history.proofs.HistoryLaws.{Right}
 use Rattle.history.proofs.ListLaws.{clash}
 use Rattle.history.proofs.PrecedenceLists.{set-case, all-snoc}
 use Rattle.history.proofs.PrecedenceLaws.{called-left, called-new, called-call, called-ret, called-event, returned-left, returned-new, returned-call, returned-event, opOf, stands-snoc, stands-called}
 use Rattle.machine.specs.declared.Phase.{Phase}
 use Rattle.machine.specs.declared.Phase.the-variants.{Rest, CalledPut, Reserved, Stored, CalledTake, Scanning, Holding}
-use Rattle.machine.specs.Bench.{Slot, Empty, Filled, Worker, Bench, back, idler, workerAt, in-phase, firstPhase, calls, pass, onward, swaps, returns, stepFrom, step, ownFrom, resting, start}
+use Rattle.machine.specs.Bench.{Slot, Empty, Filled, Worker, Bench, back, idler, workerAt, in-phase, firstPhase, calls, pass, onward, swaps, stepFrom, step, ownFrom, resting, start}
 use Rattle.machine.proofs.WorkingLaws.{kindAt, first-kind, Current, AtWork, Place, PlaceOf, Working, WorkingAt, Head, own-head}
 
 -- ---- at the start

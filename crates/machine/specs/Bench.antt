@@ -4,6 +4,7 @@
 --   Bench     threads, slots, the puts in the order in which they reserved, the finds, the history
 --             (the put at index i of the reservations has slot i; their number is the reservation count)
 --             (a find is a take and the put whose sample it met)
+--   benchOf   a bench by its five parts
 --   step      one step of one thread: a clause for each row of the document's table
 --   start, played   the bench before the first step, and after a schedule
 use mathlib.Core.Bool.{cond}
@@ -34,6 +35,9 @@ pub record Bench : Type 0 where
   pub finds : List (ℕ × ℕ)
   pub history : List Event
 
+abbrev pub benchOf : List Worker → List Slot → List ℕ → List (ℕ × ℕ) → List Event → Bench
+benchOf ws ss rs fs h = record { workers = ws; slots = ss; reservations = rs; finds = fs; history = h }
+
 -- the reservation count
 abbrev pub back : Bench → ℕ
 back B = length (B .reservations)
@@ -50,10 +54,10 @@ in-phase w p = record { phase = p; current = w .current; todo = w .todo }
 
 -- thread t is now w
 abbrev pub moved : Bench → ℕ → Worker → Bench
-moved B t w = record { workers = set (B .workers) t w; slots = B .slots; reservations = B .reservations; finds = B .finds; history = B .history }
+moved B t w = benchOf (set (B .workers) t w) (B .slots) (B .reservations) (B .finds) (B .history)
 
 abbrev pub noted : Bench → Event → Bench
-noted B e = record { workers = B .workers; slots = B .slots; reservations = B .reservations; finds = B .finds; history = B .history ++ (e ∷ []) }
+noted B e = benchOf (B .workers) (B .slots) (B .reservations) (B .finds) (B .history ++ (e ∷ []))
 
 abbrev pub firstPhase : Kind → Phase
 firstPhase putting = CalledPut
@@ -66,13 +70,11 @@ calls T B t (o ∷ todo) = noted (moved B t (record { phase = firstPhase (T .kin
 
 -- phase 1: gets the reservation count as its slot and raises the count by 1
 abbrev pub reserves : Bench → ℕ → Worker → Bench
-reserves B t w =
-    record { workers = set (B .workers) t (in-phase w (Reserved (back B))); slots = B .slots; reservations = B .reservations ++ (w .current ∷ []); finds = B .finds; history = B .history }
+reserves B t w = benchOf (set (B .workers) t (in-phase w (Reserved (back B)))) (B .slots) (B .reservations ++ (w .current ∷ [])) (B .finds) (B .history)
 
 -- phase 2: writes its sample into slot i
 abbrev pub stores : Table → Bench → ℕ → Worker → ℕ → Bench
-stores T B t w i =
-    record { workers = set (B .workers) t (in-phase w Stored); slots = set (B .slots) i (Filled (T .sample (w .current))); reservations = B .reservations; finds = B .finds; history = B .history }
+stores T B t w i = benchOf (set (B .workers) t (in-phase w Stored)) (set (B .slots) i (Filled (T .sample (w .current)))) (B .reservations) (B .finds) (B .history)
 
 -- phase 4: b = 0 stays; otherwise a pass begins at slot 0, with end b
 abbrev pub pass : ℕ → Phase
@@ -87,13 +89,7 @@ onward j b = cond (ltb (j + 1) b) (Scanning (j + 1) b) CalledTake
 abbrev pub swaps : Bench → ℕ → Worker → ℕ → ℕ → Slot → Bench
 swaps B t w j b Empty = moved B t (in-phase w (onward j b))
 swaps B t w j b (Filled x) =
-    record {
-      workers = set (B .workers) t (in-phase w (Holding x));
-      slots = set (B .slots) j Empty;
-      reservations = B .reservations;
-      finds = B .finds ++ ((w .current, getD (B .reservations) j 0) ∷ []);
-      history = B .history;
-    }
+    benchOf (set (B .workers) t (in-phase w (Holding x))) (set (B .slots) j Empty) (B .reservations) (B .finds ++ ((w .current, getD (B .reservations) j 0) ∷ [])) (B .history)
 
 -- phases 3 and 6: a return event
 abbrev pub returns : Bench → ℕ → Worker → Option ℤ → Bench
@@ -123,7 +119,7 @@ resting T t (suc n) = record { phase = Rest; current = 0; todo = ownFrom T t 0 (
 
 -- all threads rest, all slots are empty, the reservation count is 0
 unfoldable pub start : Table → ℕ → ℕ → Bench
-start T threads slots = record { workers = resting T 0 threads; slots = replicate slots Empty; reservations = []; finds = []; history = [] }
+start T threads slots = benchOf (resting T 0 threads) (replicate slots Empty) [] [] []
 
 unfoldable pub played : Table → Bench → List ℕ → Bench
 played T B [] = B

@@ -1,65 +1,36 @@
--- The six counts (document 01, 'One step of one thread'), defined over the schedule's steps. Assumes nothing.
---   over f     the sum of f over the steps of a schedule, each at the bench as it is before that step
---   idleStep … what one step counts for: 1 or 0
--- The sixth, steps, is the schedule's length.
-use mathlib.Core.Bool.{cond}
+-- The six counts (document 01, 'One step of one thread'), defined over the schedule's steps by the phases that a step leads from and to. Assumes nothing.
+--   codeAt      the code of a thread's phase
+--   counted f   how many steps of a schedule f counts, by the codes of the thread's phase before the step and after it
+--   isIdle ..   which steps the five counts count. The sixth, steps, is the schedule's length
+use mathlib.Core.Bool.{Bool, cond, _&&_}
 use mathlib.Core.List.{List, [], _∷_}
-use Prim.Native.Nat.{ℕ, zero, suc, _+_}
+use Prim.Native.Nat.{ℕ, _+_}
 use lib.Dec.{eqb}
-use lib.ListN.{getD}
 use Rattle.limits.specs.Operations.{Table}
-use Rattle.machine.specs.declared.Phase.{Phase}
-use Rattle.machine.specs.declared.Phase.the-variants.{Rest, CalledPut, Reserved, Stored, CalledTake, Scanning, Holding}
-use Rattle.machine.specs.Bench.{Bench, Slot, Empty, Filled, workerAt, step}
-use Rattle.machine.specs.Shown.{phaseCode}
+use Rattle.machine.specs.Bench.{Bench, workerAt, step}
+use Rattle.machine.specs.Shown.{phaseTold}
 
-unfoldable pub over : (Bench → ℕ → ℕ) → Table → Bench → List ℕ → ℕ
-over f T B [] = 0
-over f T B (t ∷ schedule) = f B t + over f T (step T B t) schedule
+abbrev pub codeAt : Bench → ℕ → ℕ
+codeAt B t = phaseTold (workerAt B t .phase) .0
 
-abbrev pub noneLeft : List ℕ → ℕ
-noneLeft [] = 1
-noneLeft (o ∷ todo) = 0
+unfoldable pub counted : (ℕ → ℕ → Bool) → Table → Bench → List ℕ → ℕ
+counted f T B [] = 0
+counted f T B (t ∷ schedule) = cond (f (codeAt B t) (codeAt (step T B t) t)) 1 0 + counted f T (step T B t) schedule
 
--- a step from phase 0 with no operation left
-abbrev pub idleIn : List ℕ → Phase → ℕ
-idleIn todo p = cond (eqb (phaseCode p) 0) (noneLeft todo) 0
+-- from rest a step calls the next operation; an idle one stays at rest
+abbrev pub isIdle : ℕ → ℕ → Bool
+isIdle from to = eqb from 0 && eqb to 0
 
--- a step from phase 2
-abbrev pub storeIn : Phase → ℕ
-storeIn p = cond (eqb (phaseCode p) 2) 1 0
+abbrev pub isStore : ℕ → ℕ → Bool
+isStore from to = eqb from 2
 
--- of a step from phase 5, f of its slot number, its end and what the slot holds
-abbrev pub scanIn : (ℕ → ℕ → Slot → ℕ) → List Slot → Phase → ℕ
-scanIn f slots Rest = 0
-scanIn f slots CalledPut = 0
-scanIn f slots (Reserved i) = 0
-scanIn f slots Stored = 0
-scanIn f slots CalledTake = 0
-scanIn f slots (Scanning j b) = f j b (getD slots j Empty)
-scanIn f slots (Holding x) = 0
+abbrev pub isSwap : ℕ → ℕ → Bool
+isSwap from to = eqb from 5
 
--- the swap met a sample
-abbrev pub met : Slot → ℕ
-met Empty = 0
-met (Filled x) = 1
+-- a swap that met a sample leads to phase 6
+abbrev pub isFind : ℕ → ℕ → Bool
+isFind from to = eqb from 5 && eqb to 6
 
--- the swap met nothing at slot b − 1
-abbrev pub missedLast : ℕ → ℕ → Slot → ℕ
-missedLast j b Empty = cond (eqb (j + 1) b) 1 0
-missedLast j b (Filled x) = 0
-
-abbrev pub idleStep : Bench → ℕ → ℕ
-idleStep B t = idleIn (workerAt B t .todo) (workerAt B t .phase)
-
-abbrev pub storeStep : Bench → ℕ → ℕ
-storeStep B t = storeIn (workerAt B t .phase)
-
-abbrev pub swapStep : Bench → ℕ → ℕ
-swapStep B t = scanIn (λ j b s. 1) (B .slots) (workerAt B t .phase)
-
-abbrev pub findStep : Bench → ℕ → ℕ
-findStep B t = scanIn (λ j b s. met s) (B .slots) (workerAt B t .phase)
-
-abbrev pub fruitlessStep : Bench → ℕ → ℕ
-fruitlessStep B t = scanIn missedLast (B .slots) (workerAt B t .phase)
+-- one that met nothing at slot b − 1 leads to phase 4
+abbrev pub isFruitless : ℕ → ℕ → Bool
+isFruitless from to = eqb from 5 && eqb to 4

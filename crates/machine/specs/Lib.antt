@@ -1,3 +1,4 @@
 pub mod Bench
 pub mod Counts
+pub mod StepCounts
 pub mod Shown

@@ -6,7 +6,7 @@
 --   listedOrder    found puts in the order in which they were found, then the others; merged with the takes
 use mathlib.Core.Path.{_≡_}
 use mathlib.Core.Logic.{_⊎_}
-use mathlib.Core.List.{List, [], _∷_, _++_, map}
+use mathlib.Core.List.{List, [], _∷_, _++_}
 use Prim.Native.Nat.{ℕ}
 use native.Mathlib.Decide.{ℕ-discrete}
 use Rattle.history.specs.History.{Event, Precedes}

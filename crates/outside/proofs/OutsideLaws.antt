@@ -1,36 +1,48 @@
 -- What a run says, told in numbers: refused, every lent list is as it was; accepted, the record lists show the bench's threads. Assumes nothing.
+--   in-numbers      an answer that a fit gives, told in numbers, is what the fit gives in numbers
+--   rooms           an accepted run has few threads, and room for each in every record list
+--   tells-refused   what a refused run tells
+--   tells-ran       what an accepted run tells
 use mathlib.Core.Path.{_≡_, refl, sym, ap, _∙_}
-use mathlib.Core.Bool.{Bool, true, false, cond, _&&_, false≢true}
+use mathlib.Core.Bool.{Bool, true, false, cond}
 use mathlib.Core.List.{List, _++_, map}
-use Prim.Native.Nat.{ℕ, _*_, _≤_, _<_}
+use Prim.Native.Nat.{ℕ, _≤_, _<_}
 use native.Mathlib.Omega.{arith}
 use lib.Dec.{leb}
 use lib.IntN.{ℤ}
 use lib.ListN.{length, getD, drop, replicate, length-map, List·getD-append, List·getD-map}
 use borrow.Author.Tests.{leb-true, leb-false}
 use Rattle.limits.specs.declared.Refusal.{Refusal}
-use Rattle.limits.specs.declared.Refusal.the-variants.{Room as NoRoom}
 use Rattle.limits.specs.declared.Fit.{Fit}
 use Rattle.limits.specs.declared.Fit.the-variants.{Pass, Refused as Unfit}
-use Rattle.limits.specs.Operations.{Table, tableOf}
-use Rattle.limits.specs.Refusals.{inputRefusal, andThen, unless}
-use Rattle.limits.proofs.PassLaws.{Passed, input-passed}
-use Rattle.history.proofs.ListLaws.{clash}
-use Rattle.history.proofs.PrecedenceLists.{all-of-getD}
+use Rattle.limits.specs.Operations.{Input, table}
+use Rattle.limits.specs.Refusals.{refusalTold, byFit, lentAfter}
+use Rattle.limits.proofs.FitLaws.{in-numbers}
 use Rattle.machine.specs.declared.Phase.{Phase}
 use Rattle.machine.specs.declared.ThreadRecord.{ThreadRecord}
 use Rattle.machine.specs.Bench.{Bench, Worker, idler}
-use Rattle.machine.specs.Shown.{phaseCode, phaseNumber, phaseEnd, recordOf, records}
-use Rattle.machine.proofs.RunLaws.{run-played, puts-fit, workers-length}
+use Rattle.machine.specs.Shown.{phaseTold, records}
+use Rattle.machine.proofs.RunLaws.{workers-length}
 use Rattle.run.specs.declared.Summary.{Summary}
 use Rattle.run.specs.declared.Final.{Final}
+use Rattle.run.specs.declared.Outcome.{Outcome}
 use Rattle.run.specs.declared.Outcome.the-variants.{Ran, Refused}
-use Rattle.run.specs.Run.{Room, hasRoom, runFit, benchAfter, summaryOf, answerOf, lentAfter, restRecord, recordsAfter, RunSays}
+use Rattle.run.specs.Run.{Lists, runFit, benchAfter, summaryOf}
+use Rattle.run.specs.Core.{restRecord, recordsAfter}
 use Rattle.run.specs.FinalTwin.{tab}
+use Rattle.run.proofs.PassedLaws.{passed-run}
+use Rattle.run.proofs.FitLaws.{fit-passed, fit-rooms, fitRan, ran-fit}
+use Rattle.run.proofs.OnlyLaws.{Says, core-lists}
 use Rattle.run.proofs.ShownLaws.{tab-map}
 use Rattle.outside.specs.declared.RunAnswer.{RunAnswer}
-use Rattle.outside.specs.Outside.{runNumbers, Lent, lentOf, lower, least, roomIn, RunTells}
+use Rattle.outside.specs.Outside.{runNumbers, nothing, lower, RunTells}
 use Rattle.outside.specs.RecordTwin.{codeAt, numberAt, endAt}
+
+-- ---- answers in numbers
+
+abbrev outcomeNumbers : Outcome → RunAnswer
+outcomeNumbers (Ran s) = runNumbers (0, 0) s
+outcomeNumbers (Refused x) = runNumbers (refusalTold x) nothing
 
 -- ---- the lowest of three numbers is below each
 
@@ -41,129 +53,101 @@ lower-low a b n h = go (leb a b) refl h
     go true e k = (k, omega (arith, leb-true a b e))
     go false e k = (omega (arith, leb-false a b e), k)
 
-pub least-low : (a b c n : ℕ) → n ≤ least a b c → (n ≤ a) × (n ≤ b) × (n ≤ c)
+least-low : (a b c n : ℕ) → n ≤ lower (lower a b) c → (n ≤ a) × (n ≤ b) × (n ≤ c)
 least-low a b c n h =
     let k = lower-low (lower a b) c n h in
     let j = lower-low a b n (k .0) in
     (j .0, j .1, k .1)
 
--- ---- an outcome shows the fit
+-- few threads, and room for each in the record lists
+pub record Rooms (threads : ℕ) (ps : List ℕ) (ns : List ℤ) (es : List ℕ) : Type 0 where
+  pub most : threads ≤ 16
+  pub phases : threads ≤ length ps
+  pub numbers : threads ≤ length ns
+  pub ends : threads ≤ length es
 
-answer-pass : (f : Fit) (s t : Summary) → answerOf f s ≡ Ran t → f ≡ Pass
-answer-pass Pass s t e = refl
-answer-pass (Unfit r) s t e = clash (cc)
+-- for how many records the three lists have room
+abbrev pub room : List ℕ → List ℤ → List ℕ → ℕ
+room ps ns es = lower (lower (length ps) (length ns)) (length es)
 
-answer-unfit : (f : Fit) (s : Summary) (r : Refusal) → answerOf f s ≡ Refused r → f ≡ Unfit r
-answer-unfit Pass s r e = clash (cc)
-answer-unfit (Unfit q) s r e = let z : q ≡ r = cc in rw z
-
-then-pass : (f g : Fit) → andThen f g ≡ Pass → (f ≡ Pass) × (g ≡ Pass)
-then-pass Pass g e = (refl, e)
-then-pass (Unfit r) g e = clash (cc)
-
-unless-pass : (b : Bool) → unless b NoRoom Pass ≡ Pass → b ≡ true
-unless-pass true e = refl
-unless-pass false e = clash (cc)
-
-last-holds : (a b : Bool) → (a && b) ≡ true → b ≡ true
-last-holds true b e = e
-last-holds false b e = absurd (false≢true e)
-
-module _ (threads slots : ℕ) (thread kind : List ℕ) (sample : List ℤ) (schedule : List ℕ) (l : Lent) where
-  abbrev B : Bench
-  B = benchAfter threads slots thread kind sample schedule
-
-  abbrev R : Room
-  R = roomIn l
+module _ (i : Input) (l : Lists) (ps : List ℕ) (ns : List ℤ) (es : List ℕ) where
+  abbrev free : ℕ
+  free = room ps ns es
 
   abbrev fit : Fit
-  fit = runFit threads slots thread kind sample schedule R
+  fit = runFit i l free
 
-  abbrev T : Table
-  T = tableOf thread kind sample
+  abbrev B : Bench
+  B = benchAfter i
 
   module _ (passes : fit ≡ Pass) where
-    parts : (inputRefusal threads slots thread kind sample schedule ≡ Pass) × (hasRoom threads slots (length thread) R ≡ true)
-    unfolding runFit
-    parts =
-        let k = then-pass (inputRefusal threads slots thread kind sample schedule) (unless (hasRoom threads slots (length thread) R) NoRoom Pass) passes in
-        (k .0, unless-pass (hasRoom threads slots (length thread) R) (k .1))
-
-    passed : Passed threads slots thread kind sample schedule
-    passed = input-passed threads slots thread kind sample schedule (parts .0)
-
-    -- what the record lists have room for
-    pub record Rooms : Type 0 where
-      pub most : threads ≤ 16
-      pub phases : threads ≤ length (l .phases)
-      pub numbers : threads ≤ length (l .numbers)
-      pub ends : threads ≤ length (l .ends)
-
-    pub rooms : Rooms
-    rooms =
-        let k = leb-true threads (R .records)
-        (last-holds (leb (2 * length thread) (R .codes) && leb (2 * length thread) (R .samples) && leb (length thread) (R .order) && leb slots (R .marks) && leb slots (R .held)) (leb threads (R .records)) (parts .1)) in
-        let j = least-low (length (l .phases)) (length (l .numbers)) (length (l .ends)) threads k in
-        record { most = passed .threads-most; phases = j .0; numbers = j .1; ends = j .2 }
-
-    many : length (B .workers) ≡ threads
-    many = workers-length T threads slots B
-        (run-played T threads slots (puts-fit thread kind sample (passed .kinds) slots (passed .puts)) schedule (all-of-getD (λ t. t < threads) schedule 0 (passed .named)))
+    -- no step of the bench adds or loses a thread
+    many : length (B .workers) ≡ i .threads
+    many =
+        workers-length (table i) (i .threads) (i .slots) B
+        (passed-run i (fit-passed i l free passes))
 
     -- what f gives of the first records is what it gives of the workers' phases
-    pub over-threads : {A : Type 0} (f : Phase → A) (rs : List ThreadRecord) (out : List A) → rs ≡ recordsAfter fit threads B
-        → tab threads (λ t. f (getD rs t restRecord .phase)) ++ drop threads out ≡ lentAfter fit (map (λ (w : Worker). f (w .phase)) (B .workers)) out
+    over-threads : {A : Type 0} (f : Phase → A) (rs : List ThreadRecord) (out : List A) → rs ≡ recordsAfter fit (i .threads) B
+        → tab (i .threads) (λ t. f (getD rs t restRecord .phase)) ++ drop (i .threads) out ≡ lentAfter fit (map (λ (w : Worker). f (w .phase)) (B .workers)) out
     unfolding recordsAfter
     over-threads {A} f rs out e =
-        let n : length (map (λ (w : Worker). f (w .phase)) (B .workers)) ≡ threads = length-map (B .workers) (λ (w : Worker). f (w .phase)) ∙ many in
+        let n : length (map (λ (w : Worker). f (w .phase)) (B .workers)) ≡ i .threads = length-map (B .workers) (λ (w : Worker). f (w .phase)) ∙ many in
         rw passes
-        (ap (λ (x : List A). x ++ drop threads out) (tab-map (λ (w : Worker). f (w .phase)) idler (B .workers) threads (λ t. f (getD rs t restRecord .phase)) many shown)
+        (ap (λ (x : List A). x ++ drop (i .threads) out) (tab-map (λ (w : Worker). f (w .phase)) idler (B .workers) (i .threads) (λ t. f (getD rs t restRecord .phase)) many shown)
         ∙ ap (λ (k : ℕ). map (λ (w : Worker). f (w .phase)) (B .workers) ++ drop k out) (sym n))
       where
-        listed : rs ≡ records B ++ drop threads (replicate 16 restRecord)
+        listed : rs ≡ records B ++ drop (i .threads) (replicate 16 restRecord)
         listed = rw passes at e
 
-        shown : (t : ℕ) → t < threads → f (getD rs t restRecord .phase) ≡ f (getD (B .workers) t idler .phase)
+        shown : (t : ℕ) → t < i .threads → f (getD rs t restRecord .phase) ≡ f (getD (B .workers) t idler .phase)
         shown t lt =
-            let low : t < length (records B) = omega (arith, length-map (B .workers) recordOf, many) in
+            let size : length (records B) ≡ i .threads = length-map (B .workers) _ ∙ many in
             ap (λ (x : List ThreadRecord). f (getD x t restRecord .phase)) listed
-            ∙ ap (λ (x : ThreadRecord). f (x .phase)) (List·getD-append (records B) (drop threads (replicate 16 restRecord)) restRecord t low ∙ List·getD-map recordOf (B .workers) t idler)
+            ∙ ap (λ (x : ThreadRecord). f (x .phase)) (List·getD-append (records B) (drop (i .threads) (replicate 16 restRecord)) restRecord t (omega arith) ∙ List·getD-map _ (B .workers) t idler)
 
-  module _ (cs : List ℕ) (vs : List ℤ) (os ms : List ℕ) (hs : List ℤ) (last : Final)
-      (says : RunSays threads slots thread kind sample schedule (R .records) (l .codes) (l .samples) (l .order) (l .marks) (l .held) cs vs os ms hs last) where
+  module _ (m : Lists) (last : Final) (says : Says i l free (record { final = last; lists = m })) where
+    -- the outcome tells the fit, and its numbers are what the fit gives in numbers
+    fit-ran : fit ≡ fitRan (last .outcome)
+    fit-ran = ran-fit (summaryOf i) fit (says .outcome)
+
+    answers : (a : RunAnswer) → a ≡ outcomeNumbers (last .outcome) → a ≡ byFit fit (runNumbers (0, 0) (summaryOf i)) (λ x. runNumbers (refusalTold x) nothing)
+    answers a told = told ∙ ap outcomeNumbers (says .outcome) ∙ in-numbers outcomeNumbers fit (Ran (summaryOf i)) Refused
+
     -- ---- refused: nothing is written
 
-    module _ (r : Refusal) (e : last .outcome ≡ Refused r) where
-      unfit : fit ≡ Unfit r
-      unfit = answer-unfit fit (summaryOf threads slots thread kind sample schedule) r (sym (says .outcome) ∙ e)
-
-      pub tells-refused : (a : RunAnswer) → a ≡ runNumbers (Refused r)
-          → RunTells threads slots thread kind sample schedule l (lentOf cs vs os ms hs (l .phases) (l .numbers) (l .ends)) a
-      tells-refused a answered =
-          record {
-            answer = answered ∙ ap runNumbers (sym e ∙ says .outcome);
-            lists = rw unfit (stay (rw unfit at (says .codes)) (rw unfit at (says .samples)) (rw unfit at (says .order)) (rw unfit at (says .marks)) (rw unfit at (says .held)));
-          }
-        where
-          stay : cs ≡ l .codes → vs ≡ l .samples → os ≡ l .order → ms ≡ l .marks → hs ≡ l .held → lentOf cs vs os ms hs (l .phases) (l .numbers) (l .ends) ≡ l
-          stay c v o m h i = lentOf (c i) (v i) (o i) (m i) (h i) (l .phases) (l .numbers) (l .ends)
+    pub tells-refused : (x : Refusal) → last .outcome ≡ Refused x → (a : RunAnswer) → a ≡ runNumbers (refusalTold x) nothing → RunTells i l ps ns es m ps ns es a
+    tells-refused x e a told =
+        let unfit : fit ≡ Unfit x = fit-ran ∙ ap fitRan e in
+        record {
+          answer = answers a (told ∙ ap outcomeNumbers (sym e));
+          lists = core-lists i l free (record { final = last; lists = m }) says;
+          phases = rw unfit;
+          numbers = rw unfit;
+          ends = rw unfit;
+        }
 
     -- ---- accepted: the record lists show the threads
 
     module _ (s : Summary) (e : last .outcome ≡ Ran s) where
-      pub passes-ran : fit ≡ Pass
-      passes-ran = answer-pass fit (summaryOf threads slots thread kind sample schedule) s (sym (says .outcome) ∙ e)
+      passes : fit ≡ Pass
+      passes = fit-ran ∙ ap fitRan e
 
-      pub tells-ran : (a : RunAnswer) (ps : List ℕ) (ns : List ℤ) (es : List ℕ) → a ≡ runNumbers (Ran s)
-          → ps ≡ tab threads (codeAt (last .records)) ++ drop threads (l .phases)
-          → ns ≡ tab threads (numberAt (last .records)) ++ drop threads (l .numbers)
-          → es ≡ tab threads (endAt (last .records)) ++ drop threads (l .ends)
-          → RunTells threads slots thread kind sample schedule l (lentOf cs vs os ms hs ps ns es) a
-      tells-ran a ps ns es answered p n d =
-          let ph = p ∙ over-threads passes-ran phaseCode (last .records) (l .phases) (says .records) in
-          let nu = n ∙ over-threads passes-ran phaseNumber (last .records) (l .numbers) (says .records) in
-          let en = d ∙ over-threads passes-ran phaseEnd (last .records) (l .ends) (says .records) in
+      pub rooms : Rooms (i .threads) ps ns es
+      rooms =
+          let k = least-low (length ps) (length ns) (length es) (i .threads) (fit-rooms i l free passes .records) in
+          record { most = fit-passed i l free passes .threads-most; phases = k .0; numbers = k .1; ends = k .2 }
+
+      pub tells-ran : (a : RunAnswer) (ps′ : List ℕ) (ns′ : List ℤ) (es′ : List ℕ) → a ≡ runNumbers (0, 0) s
+          → ps′ ≡ tab (i .threads) (codeAt (last .records)) ++ drop (i .threads) ps
+          → ns′ ≡ tab (i .threads) (numberAt (last .records)) ++ drop (i .threads) ns
+          → es′ ≡ tab (i .threads) (endAt (last .records)) ++ drop (i .threads) es
+          → RunTells i l ps ns es m ps′ ns′ es′ a
+      tells-ran a ps′ ns′ es′ told p n d =
           record {
-            answer = answered ∙ ap runNumbers (sym e ∙ says .outcome);
-            lists = λ i. lentOf (says .codes i) (says .samples i) (says .order i) (says .marks i) (says .held i) (ph i) (nu i) (en i);
+            answer = answers a (told ∙ ap outcomeNumbers (sym e));
+            lists = core-lists i l free (record { final = last; lists = m }) says;
+            phases = p ∙ over-threads passes (λ (x : Phase). phaseTold x .0) (last .records) ps (says .records);
+            numbers = n ∙ over-threads passes (λ (x : Phase). phaseTold x .1) (last .records) ns (says .records);
+            ends = d ∙ over-threads passes (λ (x : Phase). phaseTold x .2) (last .records) es (says .records);
           }

@@ -10,28 +10,26 @@ use lib.ListN.{length}
 use Rattle.limits.specs.declared.Refusal.{Refusal}
 use Rattle.limits.specs.declared.Refusal.the-variants.{Threads, Slots, Lengths, Operations, Operation, Puts, Schedule, Entry, Room, Event, Line, Text}
 use Rattle.limits.specs.declared.Fit.{Fit}
-use Rattle.limits.specs.declared.Fit.the-variants.{Pass, Refused as Unfit}
-use Rattle.limits.specs.Refusals.{refusalNumber}
-use Rattle.machine.specs.Bench.{Bench}
-use Rattle.run.specs.declared.Summary.{Summary}
-use Rattle.run.specs.declared.Outcome.the-variants.{Refused}
-use Rattle.run.specs.Run.{runFit, benchAfter, summaryOf, answerOf, outcomeOf, lentAfter}
+use Rattle.limits.specs.declared.Fit.the-variants.{Pass, Refused}
+use Rattle.limits.specs.Operations.{Input}
+use Rattle.limits.specs.Refusals.{refusalTold, byFit}
+use Rattle.run.specs.Run.{Lists, runFit, summaryOf}
 use Rattle.runfile.specs.declared.Read.{Read}
-use Rattle.runfile.specs.declared.Read.the-variants.{Run, Refused as Unread}
-use Rattle.runfile.specs.declared.Written.{Written}
-use Rattle.runfile.specs.declared.Written.the-variants.{Bytes, Refused as Unwritten}
+use Rattle.runfile.specs.declared.Read.the-variants as Rd
 use Rattle.runfile.specs.RunText.{runText}
 use Rattle.runfile.specs.Reading.{readOf}
-use Rattle.runfile.specs.Answers.{threadIn, kindIn, sampleIn, scheduleIn, filled, writeAnswer, written}
-use Rattle.listing.specs.Listing.{listingText, listingFit, listingAs}
+use Rattle.runfile.specs.Answers.{inputIn, readFit, writeFit}
+use Rattle.listing.specs.Listing.{listingText, listingFit}
 use Rattle.outside.specs.declared.RunAnswer.{RunAnswer}
 use Rattle.outside.specs.declared.texts.ReadAnswer.{ReadAnswer}
 use Rattle.outside.specs.declared.texts.TextAnswer.{TextAnswer}
-use Rattle.outside.specs.Outside.{runNumbers, Lent, roomIn, lentThen, RunTells}
-use Rattle.outside.specs.Texts.{readNumbers, readInto, ReadTells, writeNumbers, WriteTells, listNumbers, ListTells}
+use Rattle.outside.specs.Outside.{runNumbers, nothing, RunTells}
+use Rattle.outside.specs.Texts.{readNumbers, ReadTells, textNumbers, WriteTells, ListTells}
+use Rattle.limits.proofs.FitLaws.{in-numbers}
+use Rattle.outside.proofs.OutsideLaws.{room}
 
 -- the document's numbers begin with 1
-pub number-positive : (x : Refusal) → 0 < refusalNumber x
+pub number-positive : (x : Refusal) → 0 < refusalTold x .0
 number-positive Threads = omega arith
 number-positive Slots = omega arith
 number-positive Lengths = omega arith
@@ -47,80 +45,86 @@ number-positive Text = omega arith
 
 -- a number that tells a refusal
 abbrev pub Told : ℕ → Refusal → Type 0
-Told n x = (n ≡ refusalNumber x) × (0 < n)
+Told n x = (n ≡ refusalTold x .0) × (0 < n)
 
-is-told : (n : ℕ) (x : Refusal) → n ≡ refusalNumber x → Told n x
-is-told n x e = (e, rw e (number-positive x))
+-- ---- a fit in numbers: 0 where it passes, the document's number where it refuses
 
--- ---- what is told with a refusal other than 0 is no accepted answer, and so leaves a list as it was
+abbrev number : Fit → ℕ
+number f = byFit f 0 (λ x. refusalTold x .0)
 
-run-leaves : (f : Fit) (s : Summary) (B : Bench) (l : Lent) → runNumbers (answerOf f s) .refusal ≢ 0 → lentThen f B l ≡ l
-run-leaves Pass s B l nz = absurd (nz refl)
-run-leaves (Unfit x) s B l nz = refl
+-- another number than 0 tells that the fit refuses
+refuses : (f : Fit) (n : ℕ) → n ≡ number f → n ≢ 0 → (x : Refusal) × (f ≡ Refused x)
+refuses Pass n e nz = absurd (nz e)
+refuses (Refused x) n e nz = (x, refl)
 
-read-leaves : {A : Type 0} (q : Read) (vs l : List A) → readNumbers q .refusal ≢ 0 → filled q vs l ≡ l
-read-leaves (Run threads slots operations steps) vs l nz = absurd (nz refl)
-read-leaves (Unread x) vs l nz = refl
-
-write-leaves : (q : Written) (w l : List ℕ) → writeNumbers q .refusal ≢ 0 → written q w l ≡ l
-write-leaves (Bytes n) w l nz = absurd (nz refl)
-write-leaves (Unwritten x) w l nz = refl
-
-list-leaves : (f : Fit) (n : ℕ) (w l : List ℕ) → listNumbers (listingAs f n) .refusal ≢ 0 → lentAfter f w l ≡ l
-list-leaves Pass n w l nz = absurd (nz refl)
-list-leaves (Unfit x) n w l nz = refl
+-- and a fit that refuses is told by its refusal's number
+told : (f : Fit) (n : ℕ) → n ≡ number f → (x : Refusal) → f ≡ Refused x → Told n x
+told f n e x refused =
+    let k : n ≡ refusalTold x .0 = rw refused at e in
+    (k, rw k (number-positive x))
 
 -- ---- the run
 
-module _ (threads slots : ℕ) (thread kind : List ℕ) (sample : List ℤ) (schedule : List ℕ) (l l′ : Lent) (r : RunAnswer)
-    (tells : RunTells threads slots thread kind sample schedule l l′ r) where
-  pub run-refused-leaves : r .refusal ≢ 0 → l′ ≡ l
-  run-refused-leaves nz =
-      tells .lists
-      ∙ run-leaves (runFit threads slots thread kind sample schedule (roomIn l)) (summaryOf threads slots thread kind sample schedule) (benchAfter threads slots thread kind sample schedule) l
-      (λ z. nz (ap (λ (a : RunAnswer). a .refusal) (tells .answer) ∙ z))
+module _ (i : Input) (l : Lists) (ps : List ℕ) (ns : List ℤ) (es : List ℕ) (m : Lists) (ps′ : List ℕ) (ns′ : List ℤ) (es′ : List ℕ) (r : RunAnswer) (tells : RunTells i l ps ns es m ps′ ns′ es′ r) where
+  abbrev ran : Fit
+  ran = runFit i l (room ps ns es)
 
-  pub run-refused-told : (x : Refusal) → outcomeOf threads slots thread kind sample schedule (roomIn l) ≡ Refused x → Told (r .refusal) x
-  run-refused-told x e = is-told (r .refusal) x (ap (λ (a : RunAnswer). a .refusal) (tells .answer ∙ ap runNumbers e))
+  run-number : r .refusal ≡ number ran
+  run-number = ap (λ (a : RunAnswer). a .refusal) (tells .answer) ∙ in-numbers (λ (a : RunAnswer). a .refusal) ran (runNumbers (0, 0) (summaryOf i)) (λ x. runNumbers (refusalTold x) nothing)
+
+  pub run-refused-leaves : r .refusal ≢ 0 → (m ≡ l) × (ps′ ≡ ps) × (ns′ ≡ ns) × (es′ ≡ es)
+  run-refused-leaves nz =
+      let e = refuses ran (r .refusal) run-number nz .1 in
+      (rw e at (tells .lists), rw e at (tells .phases), rw e at (tells .numbers), rw e at (tells .ends))
+
+  pub run-refused-told : (x : Refusal) → ran ≡ Refused x → Told (r .refusal) x
+  run-refused-told = told ran (r .refusal) run-number
 
 -- ---- the reader
 
 module _ (text thread kind : List ℕ) (sample : List ℤ) (schedule : List ℕ) (r : ReadAnswer) (thread′ kind′ : List ℕ) (sample′ : List ℤ) (schedule′ : List ℕ)
     (tells : ReadTells text thread kind sample schedule r thread′ kind′ sample′ schedule′) where
+  abbrev read : Fit
+  read = readFit text (length thread) (length kind) (length sample) (length schedule)
+
+  read-number : r .refusal ≡ number read
+  read-number =
+      let i = inputIn (readOf text) in
+      ap (λ (a : ReadAnswer). a .refusal) (tells .answer ∙ ap readNumbers (tells .says .answer))
+      ∙ in-numbers (λ (q : Read). readNumbers q .refusal) read (Rd.Run (i .threads) (i .slots) (length (i .thread)) (length (i .schedule))) Rd.Refused
+
   pub read-refused-leaves : r .refusal ≢ 0 → (thread′ ≡ thread) × (kind′ ≡ kind) × (sample′ ≡ sample) × (schedule′ ≡ schedule)
   read-refused-leaves nz =
-      let q = readInto text thread kind sample schedule in
-      let told : readNumbers q .refusal ≢ 0 = λ z. nz (ap (λ (a : ReadAnswer). a .refusal) (tells .answer) ∙ z) in (
-        tells .threads ∙ read-leaves q (threadIn (readOf text)) thread told,
-        tells .kinds ∙ read-leaves q (kindIn (readOf text)) kind told,
-        tells .samples ∙ read-leaves q (sampleIn (readOf text)) sample told,
-        tells .steps ∙ read-leaves q (scheduleIn (readOf text)) schedule told,
-      )
+      let e = refuses read (r .refusal) read-number nz .1 in
+      let says = tells .says in
+      (rw e at (says .threads), rw e at (says .kinds), rw e at (says .samples), rw e at (says .steps))
 
-  pub read-refused-told : (x : Refusal) → readInto text thread kind sample schedule ≡ Unread x → Told (r .refusal) x
-  read-refused-told x e = is-told (r .refusal) x (ap (λ (a : ReadAnswer). a .refusal) (tells .answer ∙ ap readNumbers e))
+  pub read-refused-told : (x : Refusal) → read ≡ Refused x → Told (r .refusal) x
+  read-refused-told = told read (r .refusal) read-number
 
 -- ---- the writer and the listing
 
-module _ (threads slots : ℕ) (thread kind : List ℕ) (sample : List ℤ) (schedule text : List ℕ) (r : TextAnswer) (text′ : List ℕ) where
-  pub write-refused-leaves : WriteTells threads slots thread kind sample schedule text r text′ → r .refusal ≢ 0 → text′ ≡ text
-  write-refused-leaves tells nz =
-      tells .bytes
-      ∙ write-leaves (writeAnswer (length text) threads slots thread kind sample schedule) (runText threads slots thread kind sample schedule) text
-      (λ z. nz (ap (λ (a : TextAnswer). a .refusal) (tells .answer) ∙ z))
+-- a text of n bytes that a fit lets in
+text-number : (f : Fit) (n : ℕ) (r : TextAnswer) → r ≡ byFit f (textNumbers (0, 0) n) (λ x. textNumbers (refusalTold x) 0) → r .refusal ≡ number f
+text-number f n r e = ap (λ (a : TextAnswer). a .refusal) e ∙ in-numbers (λ (a : TextAnswer). a .refusal) f (textNumbers (0, 0) n) (λ x. textNumbers (refusalTold x) 0)
 
-  pub write-refused-told : WriteTells threads slots thread kind sample schedule text r text′
-      → (x : Refusal) → writeAnswer (length text) threads slots thread kind sample schedule ≡ Unwritten x → Told (r .refusal) x
-  write-refused-told tells x e = is-told (r .refusal) x (ap (λ (a : TextAnswer). a .refusal) (tells .answer ∙ ap writeNumbers e))
+module _ (i : Input) (text : List ℕ) (r : TextAnswer) (text′ : List ℕ) where
+  module _ (tells : WriteTells i text r text′) where
+    write-number : r .refusal ≡ number (writeFit i (length text))
+    write-number = text-number (writeFit i (length text)) (length (runText i)) r (tells .answer)
 
-  pub list-refused-leaves : ListTells threads slots thread kind sample schedule text r text′ → r .refusal ≢ 0 → text′ ≡ text
-  list-refused-leaves tells nz =
-      let w = listingText threads slots thread kind sample schedule in
-      tells .bytes
-      ∙ list-leaves (listingFit threads slots thread kind sample schedule (length text)) (length w) w text
-      (λ z. nz (ap (λ (a : TextAnswer). a .refusal) (tells .answer) ∙ z))
+    pub write-refused-leaves : r .refusal ≢ 0 → text′ ≡ text
+    write-refused-leaves nz = rw (refuses (writeFit i (length text)) (r .refusal) write-number nz .1) at (tells .bytes)
 
-  pub list-refused-told : ListTells threads slots thread kind sample schedule text r text′
-      → (x : Refusal) → listingFit threads slots thread kind sample schedule (length text) ≡ Unfit x → Told (r .refusal) x
-  list-refused-told tells x e =
-      is-told (r .refusal) x (ap (λ (a : TextAnswer). a .refusal) (tells .answer ∙ ap (λ (f : Fit). listNumbers (listingAs f (length (listingText threads slots thread kind sample schedule)))) e))
+    pub write-refused-told : (x : Refusal) → writeFit i (length text) ≡ Refused x → Told (r .refusal) x
+    write-refused-told = told (writeFit i (length text)) (r .refusal) write-number
+
+  module _ (tells : ListTells i text r text′) where
+    list-number : r .refusal ≡ number (listingFit i (length text))
+    list-number = text-number (listingFit i (length text)) (length (listingText i)) r (tells .answer)
+
+    pub list-refused-leaves : r .refusal ≢ 0 → text′ ≡ text
+    list-refused-leaves nz = rw (refuses (listingFit i (length text)) (r .refusal) list-number nz .1) at (tells .bytes)
+
+    pub list-refused-told : (x : Refusal) → listingFit i (length text) ≡ Refused x → Told (r .refusal) x
+    list-refused-told = told (listingFit i (length text)) (r .refusal) list-number

@@ -2,9 +2,10 @@
 // that no one else writes to during the call; every input has its answer, and a refused call writes nothing.
 ghost use mathlib.Core.Path.{_≡_};
 ghost use Rattle.judge.specs.Judge.{judged};
-ghost use Rattle.limits.specs.Refusals.{refusalNumber};
-ghost use Rattle.run.specs.declared.Outcome.the-variants.{Ran, Refused};
-ghost use Rattle.outside.specs.Outside.{lower, least, lentOf, runNumbers, RunTells, judgeNumbers};
+ghost use Rattle.limits.specs.Operations.{inputOf};
+ghost use Rattle.limits.specs.Refusals.{refusalTold};
+ghost use Rattle.run.specs.Run.{listsOf};
+ghost use Rattle.outside.specs.Outside.{lower, nothing, runNumbers, RunTells, judgeNumbers};
 
 mod records;
 pub mod texts;
@@ -47,7 +48,7 @@ fn shorter(a: usize, b: usize) -> usize
 
 // The lowest of three numbers.
 fn shortest(a: usize, b: usize, c: usize) -> usize
-    ensures { λ r. ⌜ r ≡ least a b c ⌝ }
+    ensures { λ r. ⌜ r ≡ lower (lower a b) c ⌝ }
 {
     let low = shorter(a, b);
     shorter(low, c)
@@ -55,14 +56,14 @@ fn shortest(a: usize, b: usize, c: usize) -> usize
 
 // A refusal's number, as wide as a detail.
 pub(crate) fn number(r: Refusal) -> usize
-    ensures { λ n. ⌜ n ≡ refusalNumber r ⌝ }
+    ensures { λ n. ⌜ n ≡ refusalTold r .0 ⌝ }
 {
     limits::number(r) as usize
 }
 
 // The answer of a refused run.
 fn refuse(r: Refusal) -> RunAnswer
-    ensures { λ a. ⌜ a ≡ runNumbers (Refused r) ⌝ }
+    ensures { λ a. ⌜ a ≡ runNumbers (refusalTold r) nothing ⌝ }
 {
     RunAnswer {
         refusal: number(r),
@@ -81,7 +82,7 @@ fn refuse(r: Refusal) -> RunAnswer
 
 // The answer of an accepted run.
 fn accept(s: Summary) -> RunAnswer
-    ensures { λ a. ⌜ a ≡ runNumbers (Ran s) ⌝ }
+    ensures { λ a. ⌜ a ≡ runNumbers (0, 0) s ⌝ }
 {
     RunAnswer {
         refusal: 0,
@@ -116,9 +117,11 @@ pub extern "C" fn pollenloom_run(
     numbers: &mut [i32],
     ends: &mut [u8],
 ) -> RunAnswer
-    ensures { λ r. ⌜ RunTells threads slots (now (thread .entry)) (now (kind .entry)) (now (sample .entry)) (now (schedule .entry))
-        (lentOf (now (codes .entry)) (now (values .entry)) (now (order .entry)) (now (marks .entry)) (now (held .entry)) (now (phases .entry)) (now (numbers .entry)) (now (ends .entry)))
-        (lentOf (now (codes .exit)) (now (values .exit)) (now (order .exit)) (now (marks .exit)) (now (held .exit)) (now (phases .exit)) (now (numbers .exit)) (now (ends .exit))) r ⌝ }
+    ensures { λ r. ⌜ RunTells (inputOf threads slots (now (thread .entry)) (now (kind .entry)) (now (sample .entry)) (now (schedule .entry)))
+        (listsOf (now (codes .entry)) (now (values .entry)) (now (order .entry)) (now (marks .entry)) (now (held .entry)))
+        (now (phases .entry)) (now (numbers .entry)) (now (ends .entry))
+        (listsOf (now (codes .exit)) (now (values .exit)) (now (order .exit)) (now (marks .exit)) (now (held .exit)))
+        (now (phases .exit)) (now (numbers .exit)) (now (ends .exit)) r ⌝ }
 {
     let room = shortest(phases.len(), numbers.len(), ends.len());
     let last = run::run_core(

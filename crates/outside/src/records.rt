@@ -3,7 +3,7 @@ ghost use mathlib.Core.Path.{_≡_};
 ghost use mathlib.Core.List.{_++_};
 ghost use Prim.Native.Nat.{_≤_};
 ghost use lib.ListN.{length, drop};
-ghost use Rattle.machine.specs.Shown.{phaseCode, phaseNumber, phaseEnd};
+ghost use Rattle.machine.specs.Shown.{phaseTold};
 ghost use Rattle.run.specs.FinalTwin.{tab};
 ghost use Rattle.outside.specs.RecordTwin.{codeAt, numberAt, endAt};
 use machine::Phase;
@@ -11,7 +11,7 @@ use machine::ThreadRecord;
 
 // The document's code of a phase.
 fn code(p: Phase) -> u8
-    ensures { λ r. ⌜ r ≡ phaseCode p ⌝ }
+    ensures { λ r. ⌜ r ≡ phaseTold p .0 ⌝ }
 {
     match p {
         Phase::Rest => 0,
@@ -26,7 +26,7 @@ fn code(p: Phase) -> u8
 
 // The number that a phase shows, 0 where it has none.
 fn number(p: Phase) -> i32
-    ensures { λ r. ⌜ r ≡ phaseNumber p ⌝ }
+    ensures { λ r. ⌜ r ≡ phaseTold p .1 ⌝ }
 {
     match p {
         Phase::Rest => 0,
@@ -41,7 +41,7 @@ fn number(p: Phase) -> i32
 
 // The end of the pass of a phase that scans, 0 of every other.
 fn end(p: Phase) -> u8
-    ensures { λ r. ⌜ r ≡ phaseEnd p ⌝ }
+    ensures { λ r. ⌜ r ≡ phaseTold p .2 ⌝ }
 {
     match p {
         Phase::Rest => 0,

@@ -1,5 +1,5 @@
 // Run files and listings for callers in C and Rust: read into lent lists, and written into a lent text.
-ghost use mathlib.Core.Path.{_≡_};
+ghost use Rattle.limits.specs.Operations.{inputOf};
 ghost use Rattle.outside.specs.Texts.{ReadTells, WriteTells, ListTells};
 use listing::Listing;
 use runfile::Read;
@@ -67,7 +67,7 @@ pub extern "C" fn pollenloom_write(
     schedule: &[u8],
     text: &mut [u8],
 ) -> TextAnswer
-    ensures { λ r. ⌜ WriteTells threads slots (now (thread .entry)) (now (kind .entry)) (now (sample .entry)) (now (schedule .entry)) (now (text .entry)) r (now (text .exit)) ⌝ }
+    ensures { λ r. ⌜ WriteTells (inputOf threads slots (now (thread .entry)) (now (kind .entry)) (now (sample .entry)) (now (schedule .entry))) (now (text .entry)) r (now (text .exit)) ⌝ }
 {
     let made = writer::write_run(threads, slots, thread, kind, sample, schedule, text);
     match made {
@@ -95,7 +95,7 @@ pub extern "C" fn pollenloom_list(
     schedule: &[u8],
     text: &mut [u8],
 ) -> TextAnswer
-    ensures { λ r. ⌜ ListTells threads slots (now (thread .entry)) (now (kind .entry)) (now (sample .entry)) (now (schedule .entry)) (now (text .entry)) r (now (text .exit)) ⌝ }
+    ensures { λ r. ⌜ ListTells (inputOf threads slots (now (thread .entry)) (now (kind .entry)) (now (sample .entry)) (now (schedule .entry))) (now (text .entry)) r (now (text .exit)) ⌝ }
 {
     let listed = listing::list_run(threads, slots, thread, kind, sample, schedule, text);
     match listed {

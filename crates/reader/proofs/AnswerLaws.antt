@@ -14,15 +14,17 @@ use Rattle.limits.specs.declared.Refusal.{Refusal}
 use Rattle.limits.specs.declared.Refusal.the-variants.{Text}
 use Rattle.limits.specs.declared.Fit.{Fit}
 use Rattle.limits.specs.declared.Fit.the-variants.{Pass, Refused}
+use Rattle.limits.specs.Operations.{inputOf}
 use Rattle.limits.specs.Refusals.{inputRefusal}
 use Rattle.runfile.specs.declared.Read.{Read}
 use Rattle.runfile.specs.declared.Read.the-variants as Rd
 use Rattle.reader.specs.declared.Parsed.the-variants as Pa
 use Rattle.runfile.specs.Reading.{File, file, wrong, readOf}
-use Rattle.runfile.specs.Answers.{readFit, fileAnswer, readAnswer, filled, ReadSays}
+use Rattle.runfile.specs.Answers.{fileFit, readFit, ReadSays}
 use Rattle.reader.specs.Twins.{ParsedSays, SettleSays}
-use Rattle.runfile.proofs.InputLaws.{passed, input-cut}
-use Rattle.runfile.proofs.FitLaws.{over-sets, fit-room}
+use Rattle.limits.proofs.PassLaws.{input-passed}
+use Rattle.runfile.proofs.InputLaws.{input-cut}
+use Rattle.runfile.proofs.FitLaws.{over-sets, fit-refused, fit-room}
 
 -- ---- entries stored from the start on
 -- where they are more than the list has, only the first of them stand
@@ -54,24 +56,22 @@ front-sets {A = A} vs l n c o e d q = go (leb (length vs) n) refl
 -- ---- the answer to a reading
 module _ (n m : ℕ) (ts ks : List ℕ) (xs : List ℤ) (ss thread kind : List ℕ) (sample : List ℤ) (schedule : List ℕ) where
   abbrev room : Fit
-  room = readFit (length thread) (length kind) (length sample) (length schedule) n m ts ks xs ss
+  room = fileFit (length thread) (length kind) (length sample) (length schedule) (file n m ts ks xs ss)
 
   pub settle-refused : (x : Refusal) → room ≡ Refused x → SettleSays (file n m ts ks xs ss) thread kind sample schedule (Rd.Refused x) thread kind sample schedule
-  unfolding fileAnswer
-  settle-refused x e = record { answer = rw e; threads = refl; kinds = refl; samples = refl; steps = refl }
+  settle-refused x e = record { answer = rw e; threads = rw e; kinds = rw e; samples = rw e; steps = rw e }
 
   pub settle-run : (thread′ kind′ : List ℕ) (sample′ : List ℤ) (schedule′ : List ℕ) → room ≡ Pass
       → thread′ ≡ sets thread 0 ts → kind′ ≡ sets kind 0 ks → sample′ ≡ sets sample 0 xs → schedule′ ≡ sets schedule 0 ss
       → SettleSays (file n m ts ks xs ss) thread kind sample schedule (Rd.Run n m (length ts) (length ss)) thread′ kind′ sample′ schedule′
-  unfolding fileAnswer
   settle-run thread′ kind′ sample′ schedule′ e et ek ex es =
       let w = fit-room (length thread) (length kind) (length sample) (length schedule) n m ts ks xs ss e in
       record {
         answer = rw e;
-        threads = et ∙ over-sets ts thread (w .1 .0);
-        kinds = ek ∙ over-sets ks kind (w .1 .1 .0);
-        samples = ex ∙ over-sets xs sample (w .1 .1 .1 .0);
-        steps = es ∙ over-sets ss schedule (w .1 .1 .1 .1);
+        threads = rw e (et ∙ over-sets ts thread (w .1 .0));
+        kinds = rw e (ek ∙ over-sets ks kind (w .1 .1 .0));
+        samples = rw e (ex ∙ over-sets xs sample (w .1 .1 .1 .0));
+        steps = rw e (es ∙ over-sets ss schedule (w .1 .1 .1 .1));
       }
 
 -- ---- a reading with more operations or entries than a run may have is answered as with one too many
@@ -80,47 +80,53 @@ module _ (n m : ℕ) (ts ks : List ℕ) (xs : List ℤ) (ss : List ℕ) (hk : le
   cut = file n m (take 129 ts) (take 129 ks) (take 129 xs) (take 4097 ss)
 
   -- what passes is not cut
-  cut-same : inputRefusal n m ts ks xs ss ≡ Pass → cut ≡ file n m ts ks xs ss
+  cut-same : inputRefusal (inputOf n m ts ks xs ss) ≡ Pass → cut ≡ file n m ts ks xs ss
   cut-same e =
-      let p = passed n m ts ks xs ss e in
+      let p = input-passed (inputOf n m ts ks xs ss) e in
       let few = p .few in
       let short = p .short in
       λ i. file n m (take-all 129 ts (omega arith) i) (take-all 129 ks (omega arith) i) (take-all 129 xs (omega arith) i) (take-all 4097 ss (omega arith) i)
 
   module _ (thread₀ kind₀ : List ℕ) (sample₀ : List ℤ) (schedule₀ : List ℕ) (r : Read) (thread kind : List ℕ) (sample : List ℤ) (schedule : List ℕ) where
     pub settle-cut : SettleSays cut thread₀ kind₀ sample₀ schedule₀ r thread kind sample schedule → SettleSays (file n m ts ks xs ss) thread₀ kind₀ sample₀ schedule₀ r thread kind sample schedule
-    unfolding fileAnswer
-    settle-cut h = go (inputRefusal n m ts ks xs ss) refl
+    settle-cut h = go (inputRefusal (inputOf n m ts ks xs ss)) refl
       where
-        go : (f : Fit) → inputRefusal n m ts ks xs ss ≡ f → SettleSays (file n m ts ks xs ss) thread₀ kind₀ sample₀ schedule₀ r thread kind sample schedule
+        go : (f : Fit) → inputRefusal (inputOf n m ts ks xs ss) ≡ f → SettleSays (file n m ts ks xs ss) thread₀ kind₀ sample₀ schedule₀ r thread kind sample schedule
         go Pass e = subst (λ (f : File). SettleSays f thread₀ kind₀ sample₀ schedule₀ r thread kind sample schedule) (cut-same e) h
         go (Refused x) e =
-            let e′ : inputRefusal n m (take 129 ts) (take 129 ks) (take 129 xs) (take 4097 ss) ≡ Refused x = sym (input-cut n m ts ks xs ss hk hx) ∙ e in
-            let q : r ≡ Rd.Refused x = h .answer ∙ rw e′ in
+            let a = length thread₀ in
+            let b = length kind₀ in
+            let c = length sample₀ in
+            let d = length schedule₀ in
+            let q = fit-refused a b c d n m (take 129 ts) (take 129 ks) (take 129 xs) (take 4097 ss) x (sym (input-cut n m ts ks xs ss hk hx) ∙ e) in
+            let p = fit-refused a b c d n m ts ks xs ss x e in
             record {
-              answer = q ∙ rw e;
-              threads = h .threads ∙ ap (λ (y : Read). filled y (take 129 ts) thread₀) q ∙ ap (λ (y : Read). filled y ts thread₀) (sym q);
-              kinds = h .kinds ∙ ap (λ (y : Read). filled y (take 129 ks) kind₀) q ∙ ap (λ (y : Read). filled y ks kind₀) (sym q);
-              samples = h .samples ∙ ap (λ (y : Read). filled y (take 129 xs) sample₀) q ∙ ap (λ (y : Read). filled y xs sample₀) (sym q);
-              steps = h .steps ∙ ap (λ (y : Read). filled y (take 4097 ss) schedule₀) q ∙ ap (λ (y : Read). filled y ss schedule₀) (sym q);
+              answer = rw p (rw q at (h .answer));
+              threads = rw p (rw q at (h .threads));
+              kinds = rw p (rw q at (h .kinds));
+              samples = rw p (rw q at (h .samples));
+              steps = rw p (rw q at (h .steps));
             }
 
 -- ---- the whole reader
 module _ (s thread₀ kind₀ : List ℕ) (sample₀ : List ℤ) (schedule₀ : List ℕ) where
   pub read-long : 65536 < length s → ReadSays s thread₀ kind₀ sample₀ schedule₀ (Rd.Refused Text) thread₀ kind₀ sample₀ schedule₀
-  unfolding readAnswer
-  read-long h = record { answer = rw (lt-leb (length s) 65536 h); threads = refl; kinds = refl; samples = refl; steps = refl }
+  unfolding readFit
+  read-long h =
+      let b = lt-leb (length s) 65536 h in
+      record { answer = rw b; threads = rw b; kinds = rw b; samples = rw b; steps = rw b }
 
   module _ (short : length s ≤ 65536) where
     -- the answer to a text that is not too long is the one to its reading
     read-settled : (r : Read) (thread kind : List ℕ) (sample : List ℤ) (schedule : List ℕ) → SettleSays (readOf s) thread₀ kind₀ sample₀ schedule₀ r thread kind sample schedule → ReadSays s thread₀ kind₀ sample₀ schedule₀ r thread kind sample schedule
-    unfolding readAnswer
+    unfolding readFit
     read-settled r thread kind sample schedule h =
-        record { answer = h .answer ∙ rw (le-leb (length s) 65536 short); threads = h .threads; kinds = h .kinds; samples = h .samples; steps = h .steps }
+        let b = le-leb (length s) 65536 short in
+        record { answer = rw b (h .answer); threads = rw b (h .threads); kinds = rw b (h .kinds); samples = rw b (h .samples); steps = rw b (h .steps) }
 
     pub read-wrong : (r : Refusal) (zt zk : List ℕ) (zx : List ℤ) (zs ts ks : List ℕ) (xs : List ℤ) (ss : List ℕ) → ParsedSays (readOf s) (Pa.Refused r) zt zk zx zs ts ks xs ss
         → ReadSays s thread₀ kind₀ sample₀ schedule₀ (Rd.Refused r) thread₀ kind₀ sample₀ schedule₀
-    unfolding fileAnswer
+    unfolding fileFit
     read-wrong r zt zk zx zs ts ks xs ss h = read-settled (Rd.Refused r) thread₀ kind₀ sample₀ schedule₀ (go (readOf s) h)
       where
         go : (f : File) → ParsedSays f (Pa.Refused r) zt zk zx zs ts ks xs ss → SettleSays f thread₀ kind₀ sample₀ schedule₀ (Rd.Refused r) thread₀ kind₀ sample₀ schedule₀

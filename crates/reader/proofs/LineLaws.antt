@@ -23,7 +23,7 @@ use Rattle.runfile.specs.declared.Operation.the-variants as O
 use Rattle.reader.specs.declared.Pair.the-variants as P
 use Rattle.reader.specs.declared.Head.the-variants as H
 use Rattle.reader.specs.declared.Steps.the-variants as St
-use Rattle.runfile.specs.RunText.{threadsWord, slotsWord, putWord, takeWord, stepWord}
+use Rattle.runfile.specs.Spelling.{threadsWord, slotsWord, putWord, takeWord, stepWord}
 use Rattle.runfile.specs.Reading.{parts, same, numberAfter, takeOf, putOf, operationOf, File, file, wrong, addThreads, addSlots, addOp, addStep, orWrong, orSteps, stepsFrom, opsFrom, slotsThen, threadsThen}
 use Rattle.runfile.specs.Twins.{until}
 use Rattle.reader.specs.Twins.{NoPair, LineSays, HeadSays, underOps, underSteps, Done, OpsSays, StepsSay}

@@ -12,7 +12,7 @@ use Rattle.reader.specs.declared.Head.the-variants as H
 use Rattle.reader.specs.declared.Steps.the-variants as St
 use Rattle.reader.specs.declared.Parsed.{Parsed}
 use Rattle.reader.specs.declared.Parsed.the-variants as Pa
-use Rattle.runfile.specs.RunText.{stepWord}
+use Rattle.runfile.specs.Spelling.{stepWord}
 use Rattle.runfile.specs.Reading.{parts, numberAfter, File, file, wrong, addThreads, addSlots, addStep, orWrong, stepsFrom, readOf}
 use Rattle.reader.specs.Twins.{HeadSays, underOps, Done, OpsSays, StepsSay, ParsedSays}
 

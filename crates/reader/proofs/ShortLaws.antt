@@ -7,7 +7,7 @@ use lib.ListN.{length, getD, take, drop, take-append-drop}
 use lib.Seq.{drop-cons, drop-drop}
 use Rattle.numerals.specs.Decimal.{decimal}
 use Rattle.numerals.proofs.PrintLaws.{decimal-one, decimal-more}
-use Rattle.runfile.specs.RunText.{stepWord, pairLine, ended}
+use Rattle.runfile.specs.Spelling.{stepWord, pairLine, ended}
 use Rattle.runfile.specs.Reading.{parts}
 use Rattle.runfile.proofs.Round.{pair-line, step-first}
 use Rattle.reader.specs.declared.Pair.the-variants as P

@@ -18,6 +18,9 @@ use lib.Seq.{sets}
 use Rattle.numerals.specs.Reading.{numberOf, sampleOf}
 use Rattle.numerals.specs.declared.Number.the-variants as N
 use Rattle.limits.specs.declared.Refusal.the-variants as X
+use Rattle.limits.specs.declared.Fit.{Fit}
+use Rattle.limits.specs.Operations.{Input}
+use Rattle.limits.specs.Refusals.{byFit, lentAfter}
 use Rattle.runfile.specs.declared.Operation.{Operation}
 use Rattle.runfile.specs.declared.Operation.the-variants as O
 use Rattle.reader.specs.declared.Field.{Field}
@@ -29,11 +32,12 @@ use Rattle.reader.specs.declared.Head.the-variants as H
 use Rattle.reader.specs.declared.Steps.{Steps}
 use Rattle.reader.specs.declared.Steps.the-variants as St
 use Rattle.runfile.specs.declared.Read.{Read}
+use Rattle.runfile.specs.declared.Read.the-variants as Rd
 use Rattle.reader.specs.declared.Parsed.{Parsed}
 use Rattle.reader.specs.declared.Parsed.the-variants as Pa
-use Rattle.runfile.specs.RunText.{putWord, stepWord}
+use Rattle.runfile.specs.Spelling.{putWord, stepWord}
 use Rattle.runfile.specs.Reading.{parts, same, numberAfter, putOf, File, file, wrong, addThreads, addSlots, opsFrom, stepsFrom, threadsThen}
-use Rattle.runfile.specs.Answers.{fileAnswer, threadIn, kindIn, sampleIn, scheduleIn, filled}
+use Rattle.runfile.specs.Answers.{inputIn, fileFit}
 
 abbrev pub PassSays : ℕ → List ℕ → List ℕ → Field → Type 0
 PassSays a l w (F.At f) = (f ≡ a + length w + 1) × (l ≡ w ++ (9 ∷ drop (length w + 1) l))
@@ -107,9 +111,16 @@ ParsedSays (file n m thread kind sample schedule) (Pa.Refused r) thread₀ kind�
 ParsedSays (wrong k) (Pa.File t u c d) thread₀ kind₀ sample₀ schedule₀ thread₁ kind₁ sample₁ schedule₁ = ⊥
 ParsedSays (wrong k) (Pa.Refused r) thread₀ kind₀ sample₀ schedule₀ thread₁ kind₁ sample₁ schedule₁ = r ≡ X.Line k
 
-pub record SettleSays (f : File) (thread₀ kind₀ : List ℕ) (sample₀ : List ℤ) (schedule₀ : List ℕ) (r : Read) (thread kind : List ℕ) (sample : List ℤ) (schedule : List ℕ) : Type 0 where
-  pub answer : r ≡ fileAnswer (length thread₀) (length kind₀) (length sample₀) (length schedule₀) f
-  pub threads : thread ≡ filled r (threadIn f) thread₀
-  pub kinds : kind ≡ filled r (kindIn f) kind₀
-  pub samples : sample ≡ filled r (sampleIn f) sample₀
-  pub steps : schedule ≡ filled r (scheduleIn f) schedule₀
+module _ (f : File) (thread₀ kind₀ : List ℕ) (sample₀ : List ℤ) (schedule₀ : List ℕ) where
+  abbrev fit : Fit
+  fit = fileFit (length thread₀) (length kind₀) (length sample₀) (length schedule₀) f
+
+  abbrev i : Input
+  i = inputIn f
+
+  pub record SettleSays (r : Read) (thread kind : List ℕ) (sample : List ℤ) (schedule : List ℕ) : Type 0 where
+    pub answer : r ≡ byFit fit (Rd.Run (i .threads) (i .slots) (length (i .thread)) (length (i .schedule))) Rd.Refused
+    pub threads : thread ≡ lentAfter fit (i .thread) thread₀
+    pub kinds : kind ≡ lentAfter fit (i .kind) kind₀
+    pub samples : sample ≡ lentAfter fit (i .sample) sample₀
+    pub steps : schedule ≡ lentAfter fit (i .schedule) schedule₀

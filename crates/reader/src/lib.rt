@@ -3,9 +3,9 @@ ghost use mathlib.Core.Path.{_≡_};
 ghost use Prim.Native.Nat.{ℕ, _+_, _-_, _≤_, _<_};
 ghost use lib.ListN.{length, take, drop, set};
 ghost use lib.Seq.{sets};
-ghost use Rattle.runfile.specs.RunText.{stepWord};
+ghost use Rattle.runfile.specs.Spelling.{stepWord};
 ghost use Rattle.runfile.specs.Reading.{parts, numberAfter, operationOf, file, stepsFrom, readOf};
-ghost use Rattle.runfile.specs.Answers.{readFit, ReadSays};
+ghost use Rattle.runfile.specs.Answers.{fileFit, ReadSays};
 ghost use Rattle.runfile.specs.Twins.{until, Free};
 ghost use Rattle.reader.specs.Twins.{PassSays, LineSays, ShortSays, putIn, HeadSays, OpsSays, StepsSay, ParsedSays, SettleSays};
 use limits::Fit;
@@ -341,7 +341,7 @@ pub(crate) fn fit_read(
     xs: &[i32],
     ss: &[u8],
 ) -> Fit
-    ensures { λ r. ⌜ r ≡ readFit in_thread in_kind in_sample in_schedule threads slots (now (ts .entry)) (now (ks .entry)) (now (xs .entry)) (now (ss .entry)) ⌝ }
+    ensures { λ r. ⌜ r ≡ fileFit in_thread in_kind in_sample in_schedule (file threads slots (now (ts .entry)) (now (ks .entry)) (now (xs .entry)) (now (ss .entry))) ⌝ }
 {
     let fit = limits::check_input(threads, slots, ts, ks, xs, ss);
     let Fit::Pass = fit else {

@@ -7,19 +7,25 @@ use mathlib.Core.Path.{_≡_, refl, sym, ap, _∙_}
 use mathlib.Core.List.{List, [], _∷_, _++_, map}
 use Prim.Native.Nat.{ℕ, zero, suc, _+_, _-_, _≤_, _<_}
 use native.Mathlib.Omega.{arith}
-use lib.IntN.{ℤ}
 use lib.ListN.{length, getD, take, drop, length-append, length-drop}
 use lib.Seq.{take-at, getD-take, getD-append-add, getD-drop}
 use Rattle.limits.specs.declared.Refusal.{Refusal}
 use Rattle.limits.specs.declared.Fit.{Fit}
 use Rattle.limits.specs.declared.Fit.the-variants.{Pass, Refused as Unfit}
+use Rattle.limits.specs.Operations.{Input}
+use Rattle.limits.specs.Refusals.{lentAfter}
 use Rattle.machine.specs.declared.ThreadRecord.{ThreadRecord}
 use Rattle.machine.specs.Bench.{Bench, Worker, idler, workerAt}
-use Rattle.machine.specs.Shown.{recordOf, records}
+use Rattle.machine.specs.Shown.{records}
 use Rattle.run.specs.declared.Outcome.{Outcome}
-use Rattle.run.specs.Run.{roomOf, runFit, benchAfter, lentAfter, restRecord}
+use Rattle.run.specs.Run.{Lists, runFit, benchAfter}
+use Rattle.run.specs.Core.{restRecord}
 use Rattle.records.specs.Records.{RecordsSay}
 use Rattle.records.proofs.SayLaws.{Fits, fits}
+
+-- a worker's record
+abbrev pub recordOf : Worker → ThreadRecord
+recordOf w = record { phase = w .phase }
 
 -- the record of worker t, and past the last worker a resting one on both sides
 at-records : (ws : List Worker) (t : ℕ) → getD (map recordOf ws) t restRecord ≡ recordOf (getD ws t idler)
@@ -27,31 +33,31 @@ at-records [] t = refl
 at-records (w ∷ ws) zero = refl
 at-records (w ∷ ws) (suc t) = at-records ws t
 
-module _ (threads slots : ℕ) (thread kind : List ℕ) (sample : List ℤ) (schedule : List ℕ) (cs : List ℕ) (vs : List ℤ) (os ms : List ℕ) (hs : List ℤ) (rs : List ThreadRecord)
-    (cs′ : List ℕ) (vs′ : List ℤ) (os′ ms′ : List ℕ) (hs′ : List ℤ) (rs′ : List ThreadRecord) (r : Outcome) (says : RecordsSay threads slots thread kind sample schedule cs vs os ms hs rs cs′ vs′ os′ ms′ hs′ rs′ r) where
+module _ (i : Input) (l m : Lists) (rs rs′ : List ThreadRecord) (r : Outcome) (says : RecordsSay i l m rs rs′ r) where
   abbrev B : Bench
-  B = benchAfter threads slots thread kind sample schedule
+  B = benchAfter i
 
   abbrev fit : Fit
-  fit = runFit threads slots thread kind sample schedule (roomOf cs vs os ms hs (length rs))
+  fit = runFit i l (length rs)
 
   under : (f : Fit) → fit ≡ f → rs′ ≡ lentAfter f (records B) rs
   under f e = says .records ∙ ap (λ (g : Fit). lentAfter g (records B) rs) e
 
-  had : fit ≡ Pass → Fits threads slots thread kind sample schedule cs vs os ms hs rs
-  had = fits threads slots thread kind sample schedule cs vs os ms hs rs
+  had : fit ≡ Pass → Fits i l rs
+  had = fits i l rs
 
   -- the first entries are the records of the workers, and there are as many workers as threads
-  pub record-of-thread : fit ≡ Pass → (t : ℕ) → t < threads → getD rs′ t restRecord ≡ recordOf (workerAt B t)
+  pub record-of-thread : fit ≡ Pass → (t : ℕ) → t < i .threads → getD rs′ t restRecord ≡ recordOf (workerAt B t)
   record-of-thread e t lt =
-      sym (getD-take threads rs′ t restRecord lt) ∙ ap (λ (l : List ThreadRecord). getD (take threads l) t restRecord) (under Pass e)
-      ∙ ap (λ (l : List ThreadRecord). getD l t restRecord) (take-at (records B) (drop (length (records B)) rs) threads (had e .size)) ∙ at-records (B .workers) t
+      sym (getD-take (i .threads) rs′ t restRecord lt) ∙ ap (λ (k : List ThreadRecord). getD (take (i .threads) k) t restRecord) (under Pass e)
+      ∙ ap (λ (k : List ThreadRecord). getD k t restRecord) (take-at (records B) (drop (length (records B)) rs) (i .threads) (had e .size)) ∙ at-records (B .workers) t
 
-  pub record-after : fit ≡ Pass → (i : ℕ) → threads ≤ i → getD rs′ i restRecord ≡ getD rs i restRecord
-  record-after e i le =
-      let k : i ≡ length (records B) + (i - threads) = omega (arith, had e .size) in
-      ap (λ (l : List ThreadRecord). getD l i restRecord) (under Pass e) ∙ ap (λ (j : ℕ). getD (records B ++ drop (length (records B)) rs) j restRecord) k
-      ∙ getD-append-add (records B) (drop (length (records B)) rs) (i - threads) restRecord ∙ getD-drop (length (records B)) rs (i - threads) restRecord ∙ ap (λ (j : ℕ). getD rs j restRecord) (sym k)
+  pub record-after : fit ≡ Pass → (k : ℕ) → i .threads ≤ k → getD rs′ k restRecord ≡ getD rs k restRecord
+  record-after e k le =
+      let at : k ≡ length (records B) + (k - i .threads) = omega (arith, had e .size) in
+      ap (λ (z : List ThreadRecord). getD z k restRecord) (under Pass e) ∙ ap (λ (j : ℕ). getD (records B ++ drop (length (records B)) rs) j restRecord) at
+      ∙ getD-append-add (records B) (drop (length (records B)) rs) (k - i .threads) restRecord ∙ getD-drop (length (records B)) rs (k - i .threads) restRecord
+      ∙ ap (λ (j : ℕ). getD rs j restRecord) (sym at)
 
   pub records-refused : (x : Refusal) → fit ≡ Unfit x → rs′ ≡ rs
   records-refused x e = under (Unfit x) e

@@ -4,7 +4,9 @@ ghost use mathlib.Core.Path.{_≡_};
 ghost use mathlib.Core.List.{_++_};
 ghost use Prim.Native.Nat.{_≤_, _<_};
 ghost use lib.ListN.{length, getD, take, drop};
-ghost use Rattle.run.specs.Run.{RunSays, restRecord};
+ghost use Rattle.limits.specs.Operations.{inputOf};
+ghost use Rattle.run.specs.Run.{listsOf};
+ghost use Rattle.run.specs.Core.{RunSays, restRecord};
 ghost use Rattle.records.specs.Records.{RecordsSay};
 ghost use Rattle.records.specs.Twins.{countOf};
 use machine::ThreadRecord;
@@ -100,9 +102,10 @@ pub fn run<'a>(
     held: &'a mut [i32],
     records: &'a mut [ThreadRecord],
 ) -> Outcome
-    ensures { λ r. ⌜ RecordsSay threads slots (now (thread .entry)) (now (kind .entry)) (now (sample .entry)) (now (schedule .entry))
-        (now (codes .entry)) (now (values .entry)) (now (order .entry)) (now (marks .entry)) (now (held .entry)) (now (records .entry))
-        (now (codes .exit)) (now (values .exit)) (now (order .exit)) (now (marks .exit)) (now (held .exit)) (now (records .exit)) r ⌝ }
+    ensures { λ r. ⌜ RecordsSay (inputOf threads slots (now (thread .entry)) (now (kind .entry)) (now (sample .entry)) (now (schedule .entry)))
+        (listsOf (now (codes .entry)) (now (values .entry)) (now (order .entry)) (now (marks .entry)) (now (held .entry)))
+        (listsOf (now (codes .exit)) (now (values .exit)) (now (order .exit)) (now (marks .exit)) (now (held .exit)))
+        (now (records .entry)) (now (records .exit)) r ⌝ }
 {
     let fin = call_core(
         threads,

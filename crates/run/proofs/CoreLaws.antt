@@ -1,44 +1,42 @@
 -- A run that was refused says so and changes nothing; a run that was played says what the bench after its schedule shows. Assumes nothing.
 use mathlib.Core.Path.{_≡_, refl, sym, ap, _∙_, subst}
-use mathlib.Core.Bool.{Bool, true, false, cond, _&&_, and-true, and-false, and-assoc, false≢true}
-use mathlib.Core.List.{List, [], _∷_, _++_, map}
-use Prim.Native.Nat.{ℕ, zero, suc, _+_, _*_, _≤_, _<_}
+use mathlib.Core.Bool.{Bool, true, false, _&&_, and-true, and-false, and-assoc}
+use mathlib.Core.List.{List, _++_, map}
+use Prim.Native.Nat.{ℕ, _+_, _*_, _≤_, _<_}
 use native.Mathlib.Omega.{arith}
 use lib.Dec.{leb}
 use lib.IntN.{ℤ, pos}
 use lib.ListN.{length, getD, take, drop, replicate, length-map, length-append}
-use lib.Seq.{sets, take-at}
-use borrow.Author.Tests.{leb-true}
+use lib.Seq.{take-at}
 use Rattle.limits.specs.declared.Refusal.{Refusal}
-use Rattle.limits.specs.declared.Refusal.the-variants.{Room as NoRoom}
-use Rattle.limits.specs.declared.Fit.{Fit}
+use Rattle.limits.specs.declared.Refusal.the-variants.{Room}
 use Rattle.limits.specs.declared.Fit.the-variants.{Pass, Refused as Unfit}
-use Rattle.limits.specs.Lists.{All}
-use Rattle.limits.specs.Operations.{Table, tableOf}
+use Rattle.limits.specs.Operations.{Table, tableOf, Input, inputOf}
 use Rattle.limits.specs.Refusals.{inputRefusal, andThen, unless}
-use Rattle.limits.proofs.PassLaws.{Passed, input-passed}
+use Rattle.limits.proofs.PassLaws.{Passed}
 use Rattle.history.specs.History.{codeOf}
-use Rattle.history.proofs.ListLaws.{clash, all-imp}
-use Rattle.history.proofs.PrecedenceLists.{all-of-getD, sub-length, below, length-below, mem-below}
+use Rattle.history.proofs.ListLaws.{all-imp}
+use Rattle.history.proofs.PrecedenceLists.{sub-length, below, length-below, mem-below}
 use Rattle.order.specs.Listing.{listingAnswer, listingAfter}
 use Rattle.order.proofs.StoreLaws.{sets-front}
 use Rattle.order.proofs.ListingLaws.{takesOf, putsOf, listed-in-room, listed-length}
 use Rattle.machine.specs.declared.ThreadRecord.{ThreadRecord}
-use Rattle.machine.specs.Bench.{Bench, Slot, Empty, Filled, idler, back, workerAt, start, played}
-use Rattle.machine.specs.Counts.{over, findStep}
-use Rattle.machine.specs.Shown.{codes, samples, order, mark, held, unfound, recordOf, records}
-use Rattle.machine.proofs.CountLaws.{PutsAtMost}
-use Rattle.machine.proofs.RunLaws.{Run, run-played, run-room, puts-fit, workers-length, slots-length, slot-held, history-length, history-sound, finds-most, finds-count}
-use Rattle.machine.proofs.ChainLaws.{ordered-played}
+use Rattle.machine.specs.Bench.{Bench, Slot, Empty, Filled, idler, back, start}
+use Rattle.machine.specs.Shown.{codes, samples, order, mark, held, unfound, records}
+use Rattle.machine.proofs.RunLaws.{Run, run-room, workers-length, slots-length, slot-held, history-sound, finds-most, finds-count}
+use Rattle.machine.proofs.CountedLaws.{idle-counted, stores-counted, swaps-counted, finds-counted, fruitless-counted}
 use Rattle.machine.proofs.DemandLaws.{listed-called, run-once}
 use Rattle.stepping.specs.declared.State.{State}
-use Rattle.stepping.specs.Twins.{World, worldOf, idleWorld, roomIn, playFit, playRun, playTwin, resting}
+use Rattle.stepping.specs.Twins.{World, worldOf, idleWorld, playFit, playTwin}
 use Rattle.faithful.specs.Views.{Faithful}
 use Rattle.faithful.proofs.FaithfulLaws.{faithful}
 use Rattle.run.specs.declared.Final.{Final}
-use Rattle.run.specs.declared.Outcome.the-variants.{Ran, Refused}
-use Rattle.run.specs.Run.{Room, roomOf, hasRoom, runFit, benchAfter, summaryOf, answerOf, outcomeOf, lentAfter, restRecord, recordsAfter, RunSays}
+use Rattle.run.specs.declared.Outcome.the-variants.{Refused}
+use Rattle.run.specs.Run.{Lists, listsOf, runFit, benchAfter, summaryOf}
+use Rattle.run.specs.Core.{restRecord, recordsAfter, RunSays}
 use Rattle.run.specs.FinalTwin.{tab, recordAt, shownThreads, heldAt, gathered, listedCount, restRoom, Concludes, concluded}
+use Rattle.run.proofs.PassedLaws.{passed-most, passed-named, passed-run, passed-ordered}
+use Rattle.run.proofs.FitLaws.{fit-passed, Rooms, fit-rooms}
 use Rattle.run.proofs.ShownLaws.{tab-map, held-as, gathered-unfound}
 
 -- ---- the same six tests of room, in two orders
@@ -52,19 +50,22 @@ module _ (threads slots : ℕ) (thread kind : List ℕ) (sample : List ℤ) (sch
   abbrev T : Table
   T = tableOf thread kind sample
 
-  abbrev B : Bench
-  B = benchAfter threads slots thread kind sample schedule
+  abbrev I : Input
+  I = inputOf threads slots thread kind sample schedule
 
-  abbrev R : Room
-  R = roomOf cs vs os ms hs room
+  abbrev B : Bench
+  B = benchAfter I
+
+  abbrev L : Lists
+  L = listsOf cs vs os ms hs
 
   abbrev roomy : Bool
   roomy = restRoom threads slots (length thread) (length os) (length ms) (length hs) room
 
   -- the code's refusal is the document's
-  pub fit-same : playFit threads slots thread kind sample schedule roomy cs vs ≡ runFit threads slots thread kind sample schedule R
+  pub fit-same : playFit threads slots thread kind sample schedule roomy cs vs ≡ runFit I L room
   unfolding playFit runFit
-  fit-same = ap (λ (b : Bool). andThen (inputRefusal threads slots thread kind sample schedule) (unless b NoRoom Pass))
+  fit-same = ap (λ (b : Bool). andThen (inputRefusal I) (unless b Room Pass))
       (room-order (leb (2 * length thread) (length cs)) (leb (2 * length thread) (length vs)) (leb (length thread) (length os)) (leb slots (length ms)) (leb slots (length hs)) (leb threads room))
 
   -- ---- refused
@@ -78,7 +79,7 @@ module _ (threads slots : ℕ) (thread kind : List ℕ) (sample : List ℤ) (sch
     pub says-refused : RunSays threads slots thread kind sample schedule room cs vs os ms hs cs′ vs′ os ms hs (record { outcome = Refused r; records = replicate 16 restRecord })
     unfolding recordsAfter
     says-refused =
-        let e : runFit threads slots thread kind sample schedule R ≡ Unfit r = sym fit-same ∙ fit in
+        let e : runFit I L room ≡ Unfit r = sym fit-same ∙ fit in
         record {
           outcome = rw e;
           records = rw e;
@@ -91,67 +92,23 @@ module _ (threads slots : ℕ) (thread kind : List ℕ) (sample : List ℤ) (sch
 
   -- ---- played
 
-  both : (a b : Bool) → (a && b) ≡ true → (a ≡ true) × (b ≡ true)
-  both true b e = (refl, e)
-  both false b e = absurd (false≢true e)
-
-  then-pass : (f g : Fit) → andThen f g ≡ Pass → (f ≡ Pass) × (g ≡ Pass)
-  then-pass Pass g e = (refl, e)
-  then-pass (Unfit r) g e = clash (cc)
-
-  unless-pass : (b : Bool) → unless b NoRoom Pass ≡ Pass → b ≡ true
-  unless-pass true e = refl
-  unless-pass false e = clash (cc)
-
   module _ (pass : playFit threads slots thread kind sample schedule roomy cs vs ≡ Pass) where
-    fits : runFit threads slots thread kind sample schedule R ≡ Pass
+    fits : runFit I L room ≡ Pass
     fits = sym fit-same ∙ pass
 
-    parts : (inputRefusal threads slots thread kind sample schedule ≡ Pass) × (hasRoom threads slots (length thread) R ≡ true)
-    unfolding runFit
-    parts =
-        let k = then-pass (inputRefusal threads slots thread kind sample schedule) (unless (hasRoom threads slots (length thread) R) NoRoom Pass) fits in
-        (k .0, unless-pass (hasRoom threads slots (length thread) R) (k .1))
+    passed : Passed (inputOf threads slots thread kind sample schedule)
+    passed = fit-passed I L room fits
 
-    pub passed : Passed threads slots thread kind sample schedule
-    passed = input-passed threads slots thread kind sample schedule (parts .0)
-
-    -- what each lent list has room for
-    pub record Rooms : Type 0 where
-      pub codes : 2 * length thread ≤ length cs
-      pub samples : 2 * length thread ≤ length vs
-      pub order : length thread ≤ length os
-      pub marks : slots ≤ length ms
-      pub held : slots ≤ length hs
-
-    pub rooms : Rooms
-    rooms =
-        let f = both (leb (2 * length thread) (length cs) && leb (2 * length thread) (length vs) && leb (length thread) (length os) && leb slots (length ms) && leb slots (length hs)) (leb threads room) (parts .1) in
-        let e = both (leb (2 * length thread) (length cs) && leb (2 * length thread) (length vs) && leb (length thread) (length os) && leb slots (length ms)) (leb slots (length hs)) (f .0) in
-        let d = both (leb (2 * length thread) (length cs) && leb (2 * length thread) (length vs) && leb (length thread) (length os)) (leb slots (length ms)) (e .0) in
-        let c = both (leb (2 * length thread) (length cs) && leb (2 * length thread) (length vs)) (leb (length thread) (length os)) (d .0) in
-        let b = both (leb (2 * length thread) (length cs)) (leb (2 * length thread) (length vs)) (c .0) in
-        record {
-          codes = leb-true (2 * length thread) (length cs) (b .0);
-          samples = leb-true (2 * length thread) (length vs) (b .1);
-          order = leb-true (length thread) (length os) (c .1);
-          marks = leb-true slots (length ms) (d .1);
-          held = leb-true slots (length hs) (e .1);
-        }
-
-    most : PutsAtMost T slots
-    most = puts-fit thread kind sample (passed .kinds) slots (passed .puts)
-
-    named : All (λ t. t < threads) schedule
-    named = all-of-getD (λ t. t < threads) schedule 0 (passed .named)
+    rooms : Rooms I L room
+    rooms = fit-rooms I L room fits
 
     run : Run T threads slots B
-    run = run-played T threads slots most schedule named
+    run = passed-run I passed
 
     -- the order lists no operation twice, so it has room
     order-low : length (order B) ≤ length thread
     order-low =
-        let o = ordered-played T threads slots most schedule named in
+        let o = passed-ordered I passed in
         omega (
           arith,
           length-below (length thread),
@@ -160,7 +117,7 @@ module _ (threads slots : ℕ) (thread kind : List ℕ) (sample : List ℤ) (sch
         )
 
     finds-low : length (B .finds) ≤ 64
-    finds-low = omega (arith, finds-most T threads slots B run, run-room T threads slots most B run, passed .slots-most)
+    finds-low = omega (arith, finds-most T threads slots B run, run-room T threads slots (passed-most I passed) B run, passed .slots-most)
 
     module _ (s : State) (cs′ : List ℕ) (vs′ : List ℤ) (ts ps : List ℕ)
         (ran : worldOf s cs′ vs′ ts ps ≡ playTwin threads slots thread kind sample schedule roomy cs vs (replicate 64 0) (replicate 64 0)) where
@@ -217,7 +174,7 @@ module _ (threads slots : ℕ) (thread kind : List ℕ) (sample : List ℤ) (sch
       shown : shownThreads (s .threads) threads ≡ records B ++ drop threads (replicate 16 restRecord)
       unfolding shownThreads
       shown = ap (λ (l : List ThreadRecord). l ++ drop threads (replicate 16 restRecord))
-          (tab-map recordOf idler (B .workers) threads (recordAt (s .threads)) (workers-length T threads slots B run) (λ t lt. ap (λ p. record { phase = p }) (shows .phases t lt)))
+          (tab-map _ idler (B .workers) threads (recordAt (s .threads)) (workers-length T threads slots B run) (λ t lt. ap (λ p. record { phase = p }) (shows .phases t lt)))
 
       -- the first entries of a lent list, and how many they are
       over-slots : {A : Type 0} (g : Slot → A) (f : ℕ → A) (l : List A) → ((i : ℕ) → i < slots → f i ≡ g (getD (B .slots) i Empty)) → tab slots f ++ drop slots l ≡ map g (B .slots) ++ drop (length (map g (B .slots))) l
@@ -237,7 +194,18 @@ module _ (threads slots : ℕ) (thread kind : List ℕ) (sample : List ℤ) (sch
         pub says-ran : RunSays threads slots thread kind sample schedule room cs vs os ms hs cs′ vs′ os′ ms′ hs′ r
         unfolding recordsAfter summaryOf
         says-ran = record {
-          outcome = rw (answered, fits, listed .0, shows .events, shows .back, shows .idle, shows .stores, shows .swaps, shows .finds, shows .fruitless);
+          outcome = rw (
+            answered,
+            fits,
+            listed .0,
+            shows .events,
+            shows .back,
+            shows .idle ∙ idle-counted T threads slots (passed-most I passed) schedule (passed-named I passed),
+            shows .stores ∙ stores-counted T threads slots (passed-most I passed) schedule (passed-named I passed),
+            shows .swaps ∙ swaps-counted T threads slots (passed-most I passed) schedule (passed-named I passed),
+            shows .finds ∙ finds-counted T threads slots (passed-most I passed) schedule (passed-named I passed),
+            shows .fruitless ∙ fruitless-counted T threads slots (passed-most I passed) schedule (passed-named I passed),
+          );
           records = rw (answered, fits) shown;
           codes = rw fits (shows .codes);
           samples = rw fits (shows .values);

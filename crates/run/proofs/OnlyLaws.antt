@@ -1,31 +1,33 @@
--- Two results of `run_core` that meet its statement are the same. Assumes nothing.
+-- What `run_core` leaves in the five lent lists is what a run is to leave there, and two results of it that meet its statement are the same. Assumes nothing.
+--   lists-same   lists whose five parts are the same are the same
+--   core-lists   the lists as the core leaves them
+--   core-only    two results of the core are the same
 use mathlib.Core.Path.{_≡_, sym, _∙_}
-use mathlib.Core.List.{List}
 use Prim.Native.Nat.{ℕ}
-use lib.IntN.{ℤ}
+use Rattle.limits.specs.Operations.{Input}
 use Rattle.run.specs.declared.Final.{Final}
-use Rattle.run.specs.Run.{RunSays}
+use Rattle.run.specs.Run.{Lists, runFit, benchAfter, listsAfter}
+use Rattle.run.specs.Core.{RunSays}
+
+pub lists-same : {l m : Lists} → l .codes ≡ m .codes → l .samples ≡ m .samples → l .order ≡ m .order → l .marks ≡ m .marks → l .held ≡ m .held → l ≡ m
+lists-same cs vs os ms hs j = record { codes = cs j; samples = vs j; order = os j; marks = ms j; held = hs j }
 
 -- what the core answers, with the five lists as it leaves them
 pub record CoreResult : Type 0 where
   pub final : Final
-  pub codes : List ℕ
-  pub samples : List ℤ
-  pub order : List ℕ
-  pub marks : List ℕ
-  pub held : List ℤ
+  pub lists : Lists
 
-module _ (threads slots : ℕ) (thread kind : List ℕ) (sample : List ℤ) (schedule : List ℕ) (room : ℕ) (cs : List ℕ) (vs : List ℤ) (os ms : List ℕ) (hs : List ℤ) where
+module _ (i : Input) (l : Lists) (room : ℕ) where
   abbrev pub Says : CoreResult → Type 0
-  Says x = RunSays threads slots thread kind sample schedule room cs vs os ms hs (x .codes) (x .samples) (x .order) (x .marks) (x .held) (x .final)
+  Says x = RunSays (i .threads) (i .slots) (i .thread) (i .kind) (i .sample) (i .schedule) room (l .codes) (l .samples) (l .order) (l .marks) (l .held)
+      (x .lists .codes) (x .lists .samples) (x .lists .order) (x .lists .marks) (x .lists .held) (x .final)
+
+  pub core-lists : (x : CoreResult) → Says x → x .lists ≡ listsAfter (runFit i l room) (benchAfter i) l
+  core-lists x a = lists-same (a .codes) (a .samples) (a .order) (a .marks) (a .held)
 
   -- each part is told by an equation whose right side knows only what went in
   pub core-only : (x y : CoreResult) → Says x → Says y → x ≡ y
-  core-only x y a b i = record {
-    final = record { outcome = (a .outcome ∙ sym (b .outcome)) i; records = (a .records ∙ sym (b .records)) i };
-    codes = (a .codes ∙ sym (b .codes)) i;
-    samples = (a .samples ∙ sym (b .samples)) i;
-    order = (a .order ∙ sym (b .order)) i;
-    marks = (a .marks ∙ sym (b .marks)) i;
-    held = (a .held ∙ sym (b .held)) i;
+  core-only x y a b j = record {
+    final = record { outcome = (a .outcome ∙ sym (b .outcome)) j; records = (a .records ∙ sym (b .records)) j };
+    lists = (core-lists x a ∙ sym (core-lists y b)) j;
   }

@@ -1,16 +1,14 @@
 -- What the code shows of a faithful world is what the bench shows: records, slots, the row of puts that nobody found. Assumes nothing.
 use mathlib.Core.Path.{_≡_, refl, sym, ap, _∙_}
-use mathlib.Core.Bool.{Bool, true, false, cond}
-use mathlib.Core.List.{List, [], _∷_, _++_, map}
-use Prim.Native.Nat.{ℕ, zero, suc, _+_, _-_, _≤_, _<_}
+use mathlib.Core.List.{List, [], _∷_, map}
+use Prim.Native.Nat.{ℕ, zero, suc, _+_, _-_, _<_}
 use native.Mathlib.Omega.{arith}
 use native.Mathlib.Nat.{not-suc-le-zero, le-of-suc-le-suc}
-use lib.Dec.{eqb}
 use lib.IntN.{ℤ, pos}
 use lib.ListN.{length, getD}
 use Rattle.machine.specs.Bench.{Slot, Empty, Filled}
 use Rattle.machine.specs.Shown.{mark, held, unfound}
-use Rattle.run.specs.FinalTwin.{tab, heldAs, heldAt, gathered}
+use Rattle.run.specs.FinalTwin.{tab, heldAs, gathered}
 
 -- a list is the table of its entries
 pub tab-map : {A B : Type 0} (g : A → B) (d : A) (l : List A) (n : ℕ) (f : ℕ → B) → length l ≡ n → ((i : ℕ) → i < n → f i ≡ g (getD l i d)) → tab n f ≡ map g l

@@ -11,7 +11,7 @@ use lib.Dec.{leb, eqb}
 use lib.IntN.{ℤ, pos}
 use lib.ListN.{getD, set, take, drop, replicate}
 use Rattle.run.specs.declared.finish.Others.{Others}
-use Rattle.run.specs.Run.{restRecord}
+use Rattle.run.specs.Core.{restRecord}
 use Rattle.machine.specs.declared.ThreadRecord.{ThreadRecord}
 use Rattle.stepping.specs.declared.Thread.{Thread}
 use Rattle.stepping.specs.declared.State.{State}

@@ -1,107 +1,74 @@
--- A run: its answer, and what every lent list holds afterwards (document 01, 'History, order, and what a run writes', refusals 1 to 9). Assumes nothing.
---   Room        how long the lent lists are: event codes, event samples, order, slot marks, slot samples, thread records
---   hasRoom     none of them is shorter than needed
---   runFit      the refusal that the input gets, or none: 1 to 8, then 9
---   benchAfter  the bench after the schedule
---   summaryOf   number of events, length of the order, reservation count, and the six counts
---   outcomeOf   the run's answer
---   RunSays     all that a run says: its answer, the five lists of numbers, and the records by value
---   lentAfter   a lent list afterwards: the first entries that the run has, every entry after them as it was; on a refusal all as it was
-use mathlib.Core.Path.{_≡_}
+-- A run: what it is to answer, and what the lent lists of numbers hold afterwards (document 01, 'History, order, and what a run writes', refusals 1 to 9).
+-- Assumes nothing.
+--   Lists        the lists of numbers that a run's caller lends: event codes, event samples, order, slot marks, slot samples
+--   listsOf      the five lists as one
+--   hasRoom      none of them is shorter than needed, and there is room for the thread records
+--   runFit       the refusal that the input gets, or none: 1 to 8, then 9
+--   benchAfter   the bench after the schedule
+--   countIn      how many of the run's steps a test of Counts.antt counts
+--   summaryOf    number of events, length of the order, reservation count, and the six counts
+--   listsAfter   the lists afterwards: the first entries that the run has, every entry after them as it was; on a refusal all as it was
+--   historyIn    the history that an accepted run wrote: the events that the first codes and samples give
 use mathlib.Core.Bool.{Bool, _&&_}
-use mathlib.Core.List.{List, [], _∷_, _++_, map}
-use Prim.Native.Nat.{ℕ, suc, _*_}
+use mathlib.Core.List.{List, map}
+use Prim.Native.Nat.{ℕ, _*_}
 use lib.Dec.{leb}
 use lib.IntN.{ℤ}
-use lib.ListN.{length, drop, replicate}
-use Rattle.limits.specs.declared.Refusal.the-variants.{Room as NoRoom}
+use lib.ListN.{length, take}
+use Rattle.limits.specs.declared.Refusal.the-variants.{Room}
 use Rattle.limits.specs.declared.Fit.{Fit}
-use Rattle.limits.specs.declared.Fit.the-variants.{Pass, Refused as Unfit}
-use Rattle.limits.specs.Operations.{Table, tableOf}
-use Rattle.limits.specs.Refusals.{inputRefusal, andThen, unless}
+use Rattle.limits.specs.declared.Fit.the-variants.{Pass}
+use Rattle.limits.specs.Operations.{Input, table}
+use Rattle.limits.specs.Refusals.{inputRefusal, andThen, unless, lentAfter}
+use Rattle.history.specs.History.{Event, events}
 use Rattle.machine.specs.Bench.{Bench, back, start, played}
-use Rattle.machine.specs.Counts.{over, idleStep, storeStep, swapStep, findStep, fruitlessStep}
-use Rattle.machine.specs.declared.Phase.the-variants.{Rest}
-use Rattle.machine.specs.declared.ThreadRecord.{ThreadRecord}
-use Rattle.machine.specs.Shown.{order, codes, samples, mark, held, records}
+use Rattle.machine.specs.Counts.{counted, isIdle, isStore, isSwap, isFind, isFruitless}
+use Rattle.machine.specs.Shown.{order, codes, samples, mark, held}
 use Rattle.run.specs.declared.Summary.{Summary}
-use Rattle.run.specs.declared.Final.{Final}
-use Rattle.run.specs.declared.Outcome.{Outcome}
-use Rattle.run.specs.declared.Outcome.the-variants.{Ran, Refused}
 
-pub record Room : Type 0 where
-  pub codes : ℕ
-  pub samples : ℕ
-  pub order : ℕ
-  pub marks : ℕ
-  pub held : ℕ
-  pub records : ℕ
+pub record Lists : Type 0 where
+  pub codes : List ℕ
+  pub samples : List ℤ
+  pub order : List ℕ
+  pub marks : List ℕ
+  pub held : List ℤ
 
-abbrev pub roomOf : List ℕ → List ℤ → List ℕ → List ℕ → List ℤ → ℕ → Room
-roomOf cs vs os ms hs records = record { codes = length cs; samples = length vs; order = length os; marks = length ms; held = length hs; records = records }
+abbrev pub listsOf : List ℕ → List ℤ → List ℕ → List ℕ → List ℤ → Lists
+listsOf cs vs os ms hs = record { codes = cs; samples = vs; order = os; marks = ms; held = hs }
 
-abbrev pub hasRoom : ℕ → ℕ → ℕ → Room → Bool
-hasRoom threads slots operations r =
-    leb (2 * operations) (r .codes) && leb (2 * operations) (r .samples) && leb operations (r .order)
-    && leb slots (r .marks) && leb slots (r .held) && leb threads (r .records)
+-- `records`: for how many thread records there is room
+abbrev pub hasRoom : Input → Lists → ℕ → Bool
+hasRoom i l records =
+    leb (2 * length (i .thread)) (length (l .codes)) && leb (2 * length (i .thread)) (length (l .samples)) && leb (length (i .thread)) (length (l .order))
+    && leb (i .slots) (length (l .marks)) && leb (i .slots) (length (l .held)) && leb (i .threads) records
 
-unfoldable pub runFit : ℕ → ℕ → List ℕ → List ℕ → List ℤ → List ℕ → Room → Fit
-runFit threads slots thread kind sample schedule r =
-    andThen (inputRefusal threads slots thread kind sample schedule) (unless (hasRoom threads slots (length thread) r) NoRoom Pass)
+unfoldable pub runFit : Input → Lists → ℕ → Fit
+runFit i l records = andThen (inputRefusal i) (unless (hasRoom i l records) Room Pass)
 
-abbrev pub benchAfter : ℕ → ℕ → List ℕ → List ℕ → List ℤ → List ℕ → Bench
-benchAfter threads slots thread kind sample schedule = let T = tableOf thread kind sample in played T (start T threads slots) schedule
+abbrev pub benchAfter : Input → Bench
+benchAfter i = played (table i) (start (table i) (i .threads) (i .slots)) (i .schedule)
 
-unfoldable pub summaryOf : ℕ → ℕ → List ℕ → List ℕ → List ℤ → List ℕ → Summary
-summaryOf threads slots thread kind sample schedule =
-    let T = tableOf thread kind sample in
-    let B = played T (start T threads slots) schedule in
+abbrev pub countIn : Input → (ℕ → ℕ → Bool) → ℕ
+countIn i f = counted f (table i) (start (table i) (i .threads) (i .slots)) (i .schedule)
+
+unfoldable pub summaryOf : Input → Summary
+summaryOf i =
     record {
-      events = length (B .history);
-      order = length (order B);
-      back = back B;
-      steps = length schedule;
-      idle = over idleStep T (start T threads slots) schedule;
-      stores = over storeStep T (start T threads slots) schedule;
-      swaps = over swapStep T (start T threads slots) schedule;
-      finds = over findStep T (start T threads slots) schedule;
-      fruitless = over fruitlessStep T (start T threads slots) schedule;
+      events = length (benchAfter i .history);
+      order = length (order (benchAfter i));
+      back = back (benchAfter i);
+      steps = length (i .schedule);
+      idle = countIn i isIdle;
+      stores = countIn i isStore;
+      swaps = countIn i isSwap;
+      finds = countIn i isFind;
+      fruitless = countIn i isFruitless;
     }
 
-abbrev pub answerOf : Fit → Summary → Outcome
-answerOf Pass s = Ran s
-answerOf (Unfit r) s = Refused r
+abbrev pub listsAfter : Fit → Bench → Lists → Lists
+listsAfter fit B l =
+    listsOf (lentAfter fit (codes B) (l .codes)) (lentAfter fit (samples B) (l .samples)) (lentAfter fit (order B) (l .order))
+    (lentAfter fit (map mark (B .slots)) (l .marks)) (lentAfter fit (map held (B .slots)) (l .held))
 
-abbrev pub outcomeOf : ℕ → ℕ → List ℕ → List ℕ → List ℤ → List ℕ → Room → Outcome
-outcomeOf threads slots thread kind sample schedule r =
-    answerOf (runFit threads slots thread kind sample schedule r) (summaryOf threads slots thread kind sample schedule)
-
-module _ {A : Type 0} where
-  abbrev pub lentAfter : Fit → List A → List A → List A
-  lentAfter Pass entries l = entries ++ drop (length entries) l
-  lentAfter (Unfit r) entries l = l
-
--- the records of the threads, and resting ones up to 16
-abbrev pub restRecord : ThreadRecord
-restRecord = record { phase = Rest }
-
-unfoldable pub recordsAfter : Fit → ℕ → Bench → List ThreadRecord
-recordsAfter Pass threads B = records B ++ drop threads (replicate 16 restRecord)
-recordsAfter (Unfit r) threads B = replicate 16 restRecord
-
--- from the input, the room for records and the lent lists cs, vs, os, ms, hs to the lists cs′ … afterwards and the answer
-module _ (threads slots : ℕ) (thread kind : List ℕ) (sample : List ℤ) (schedule : List ℕ) (room : ℕ) (cs : List ℕ) (vs : List ℤ) (os ms : List ℕ) (hs : List ℤ) where
-  abbrev fit : Fit
-  fit = runFit threads slots thread kind sample schedule (roomOf cs vs os ms hs room)
-
-  abbrev B : Bench
-  B = benchAfter threads slots thread kind sample schedule
-
-  pub record RunSays (cs′ : List ℕ) (vs′ : List ℤ) (os′ ms′ : List ℕ) (hs′ : List ℤ) (r : Final) : Type 0 where
-    pub outcome : r .outcome ≡ outcomeOf threads slots thread kind sample schedule (roomOf cs vs os ms hs room)
-    pub records : r .records ≡ recordsAfter fit threads B
-    pub codes : cs′ ≡ lentAfter fit (codes B) cs
-    pub samples : vs′ ≡ lentAfter fit (samples B) vs
-    pub order : os′ ≡ lentAfter fit (order B) os
-    pub marks : ms′ ≡ lentAfter fit (map mark (B .slots)) ms
-    pub held : hs′ ≡ lentAfter fit (map held (B .slots)) hs
+abbrev pub historyIn : Input → Summary → Lists → List Event
+historyIn i s l = events (table i) (take (s .events) (l .codes)) (take (s .events) (l .samples))

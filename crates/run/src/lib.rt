@@ -3,7 +3,7 @@ ghost use mathlib.Core.Path.{_≡_};
 ghost use mathlib.Core.List.{_++_};
 ghost use lib.ListN.{length, getD, take, drop, replicate};
 ghost use Rattle.order.specs.Listing.{listingAnswer, listingAfter};
-ghost use Rattle.run.specs.Run.{RunSays, restRecord};
+ghost use Rattle.run.specs.Core.{RunSays, restRecord};
 ghost use Rattle.run.specs.FinalTwin.{tab, heldAt, gathered, listedCount, restRoom, Concludes, concluded};
 
 mod finish;

@@ -17,7 +17,7 @@ use Rattle.numerals.specs.Reading.{isDigit, allDigits, numberOf, sampleOf}
 use Rattle.numerals.proofs.DecimalRound.{all-decimal, digit-of, cond-both}
 use Rattle.numerals.proofs.NumeralRound.{NumberIs, number-is, SampleIs, sample-is}
 use Rattle.runfile.specs.declared.Operation.the-variants as O
-use Rattle.runfile.specs.RunText.{takeWord}
+use Rattle.runfile.specs.Spelling.{takeWord}
 use Rattle.runfile.specs.Reading.{parts, same, numberAfter, takeOf, operationOf}
 use Rattle.runfile.specs.Twins.{Free}
 use Rattle.runfile.proofs.PartsLaws.{parts-append, parts-free, together, together-parts, Some, parts-some}

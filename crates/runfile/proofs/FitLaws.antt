@@ -1,4 +1,4 @@
--- Laws of the reader's tests 1 to 9, and of entries that stand over the first ones of a list. Assumes nothing.
+-- Laws of the reader's tests 1 to 9, of answers that they give, and of entries that stand over the first ones of a list. Assumes nothing.
 use mathlib.Core.Path.{_≡_, refl, _∙_, ap}
 use mathlib.Core.Bool.{Bool, true, false, _&&_}
 use mathlib.Core.List.{List, _++_}
@@ -13,8 +13,11 @@ use Rattle.limits.specs.declared.Refusal.{Refusal}
 use Rattle.limits.specs.declared.Refusal.the-variants.{Room}
 use Rattle.limits.specs.declared.Fit.{Fit}
 use Rattle.limits.specs.declared.Fit.the-variants.{Pass, Refused}
+use Rattle.limits.specs.Lists.{over}
+use Rattle.limits.specs.Operations.{inputOf}
 use Rattle.limits.specs.Refusals.{unless, andThen, inputRefusal}
-use Rattle.runfile.specs.Answers.{over, readFit}
+use Rattle.runfile.specs.Wrong.{file}
+use Rattle.runfile.specs.Answers.{fileFit}
 
 -- ---- entries stored from the start on
 -- where they fit, they stand over the first entries
@@ -26,16 +29,18 @@ over-sets vs l h =
 -- ---- the tests 1 to 9
 module _ (a b c d n m : ℕ) (ts ks : List ℕ) (xs : List ℤ) (ss : List ℕ) where
   abbrev input : Fit
-  input = inputRefusal n m ts ks xs ss
+  input = inputRefusal (inputOf n m ts ks xs ss)
 
   abbrev fits : Fit
-  fits = readFit a b c d n m ts ks xs ss
+  fits = fileFit a b c d (file n m ts ks xs ss)
 
   pub fit-refused : (x : Refusal) → input ≡ Refused x → fits ≡ Refused x
+  unfolding fileFit
   fit-refused x e = rw e
 
   module _ (e : input ≡ Pass) where
     pub no-thread-room : a < length ts → fits ≡ Refused Room
+    unfolding fileFit
     no-thread-room h = rw (e, lt-leb (length ts) a h) (go (leb (length ks) b) (leb (length xs) c) (leb (length ss) d))
       where
         go : (p q r : Bool) → unless (false && p && q && r) Room Pass ≡ Refused Room
@@ -50,6 +55,7 @@ module _ (a b c d n m : ℕ) (ts ks : List ℕ) (xs : List ℤ) (ss : List ℕ) 
 
     module _ (h₁ : length ts ≤ a) where
       pub no-kind-room : b < length ks → fits ≡ Refused Room
+      unfolding fileFit
       no-kind-room h = rw (e, le-leb (length ts) a h₁, lt-leb (length ks) b h) (go (leb (length xs) c) (leb (length ss) d))
         where
           go : (q r : Bool) → unless (true && false && q && r) Room Pass ≡ Refused Room
@@ -60,6 +66,7 @@ module _ (a b c d n m : ℕ) (ts ks : List ℕ) (xs : List ℤ) (ss : List ℕ) 
 
       module _ (h₂ : length ks ≤ b) where
         pub no-sample-room : c < length xs → fits ≡ Refused Room
+        unfolding fileFit
         no-sample-room h = rw (e, le-leb (length ts) a h₁, le-leb (length ks) b h₂, lt-leb (length xs) c h) (go (leb (length ss) d))
           where
             go : (r : Bool) → unless (true && true && false && r) Room Pass ≡ Refused Room
@@ -68,13 +75,16 @@ module _ (a b c d n m : ℕ) (ts ks : List ℕ) (xs : List ℤ) (ss : List ℕ) 
 
         module _ (h₃ : length xs ≤ c) where
           pub no-step-room : d < length ss → fits ≡ Refused Room
+          unfolding fileFit
           no-step-room h = rw (e, le-leb (length ts) a h₁, le-leb (length ks) b h₂, le-leb (length xs) c h₃, lt-leb (length ss) d h)
 
           pub all-room : length ss ≤ d → fits ≡ Pass
+          unfolding fileFit
           all-room h = rw (e, le-leb (length ts) a h₁, le-leb (length ks) b h₂, le-leb (length xs) c h₃, le-leb (length ss) d h)
 
   -- what is accepted has passed all tests, and there is room for it
   pub fit-room : fits ≡ Pass → (input ≡ Pass) × ((length ts ≤ a) × ((length ks ≤ b) × ((length xs ≤ c) × (length ss ≤ d))))
+  unfolding fileFit
   fit-room e = at input refl e
     where
       go : (p q r s : Bool) → unless (p && q && r && s) Room Pass ≡ Pass → (p ≡ true) × ((q ≡ true) × ((r ≡ true) × (s ≡ true)))

@@ -12,12 +12,14 @@ use mir.Syntax.{w32}
 use mir.Val.{SFits}
 use borrow.Author.Tests.{eqb-true, lt-leb}
 use Rattle.limits.specs.Lists.{All}
+use Rattle.limits.specs.Operations.{Input, inputOf}
 use Rattle.limits.specs.Refusals.{unfit}
 use Rattle.runfile.specs.RunText.{runText}
-use Rattle.runfile.specs.Wrong.{OpFits, CanHold, IsRun, File, file, wrong}
+use Rattle.runfile.specs.Wrong.{OpFits, CanHold, IsRun, File, file, wrong, Holds}
 use Rattle.runfile.specs.Reading.{readOf}
 use Rattle.runfile.proofs.InputLaws.{GoodOps, good-ops, GoodSteps}
 use Rattle.runfile.proofs.TextLaws.{fit-thread, AllFit, all-fit}
+use Rattle.runfile.proofs.SpellingLaws.{run-spelled}
 use Rattle.runfile.proofs.Round.{kind-of, Fits, read-text, text-read, read-fits}
 
 -- ---- one operation
@@ -55,34 +57,38 @@ good-steps-held : (ss : List ℕ) → GoodSteps 256 ss → All (λ t. t ≤ 255)
 good-steps-held [] h = tt
 good-steps-held (t ∷ ss) h = (omega (arith, h .0), good-steps-held ss (h .1))
 
-module _ {threads slots : ℕ} {thread kind : List ℕ} {sample : List ℤ} {schedule : List ℕ} where
-  pub held-fits : CanHold threads slots thread kind sample schedule → Fits threads slots thread kind sample schedule
-  held-fits h = record {
-    threads-fit = h .threads-fit;
-    slots-fit = h .slots-fit;
-    ops-fit = good-ops 256 thread kind sample (h .kinds) (h .samples) (λ o l. op-good (getD thread o 0) (getD kind o 0) (getD sample o (pos 0)) (h .operations o l) .0);
-    samples-fit = all-fit sample (λ o l. op-good (getD thread o 0) (getD kind o 0) (getD sample o (pos 0)) (h .operations o (omega (arith, h .samples))) .1);
-    steps-fit = steps-good schedule (h .steps);
-  }
+module _ {i : Input} where
+  pub held-fits : CanHold i → Fits (i .threads) (i .slots) (i .thread) (i .kind) (i .sample) (i .schedule)
+  held-fits h =
+      let at : (o : ℕ) → o < length (i .thread) → (unfit 256 (getD (i .thread) o 0) (getD (i .kind) o 0) (getD (i .sample) o (pos 0)) ≡ false) × SFits w32 (getD (i .sample) o (pos 0)) =
+      λ o l. op-good (getD (i .thread) o 0) (getD (i .kind) o 0) (getD (i .sample) o (pos 0)) (h .operations o l) in
+      record {
+        threads-fit = h .threads-fit;
+        slots-fit = h .slots-fit;
+        ops-fit = good-ops 256 (i .thread) (i .kind) (i .sample) (h .kinds) (h .samples) (λ o l. at o l .0);
+        samples-fit = all-fit (i .sample) (λ o l. at o (omega (arith, h .samples)) .1);
+        steps-fit = steps-good (i .schedule) (h .steps);
+      }
 
-  pub fits-held : Fits threads slots thread kind sample schedule → CanHold threads slots thread kind sample schedule
+  -- the text of what a run file can hold is read back
+  pub run-read : CanHold i → readOf (runText i) ≡ file (i .threads) (i .slots) (i .thread) (i .kind) (i .sample) (i .schedule)
+  run-read h = ap readOf (run-spelled i) ∙ read-text (held-fits h)
+
+module _ {threads slots : ℕ} {thread kind : List ℕ} {sample : List ℤ} {schedule : List ℕ} where
+  pub fits-held : Fits threads slots thread kind sample schedule → CanHold (inputOf threads slots thread kind sample schedule)
   fits-held f =
       let g = good-held thread kind sample (f .ops-fit) (f .samples-fit) in
       record { threads-fit = f .threads-fit; slots-fit = f .slots-fit; kinds = g .0; samples = g .1; operations = g .2; steps = good-steps-held schedule (f .steps-fit) }
 
-  -- the text of what a run file can hold is read back
-  pub run-read : CanHold threads slots thread kind sample schedule → readOf (runText threads slots thread kind sample schedule) ≡ file threads slots thread kind sample schedule
-  run-read h = read-text (held-fits h)
-
 -- what is read is what a run file can hold, and its text the one read
 pub read-run : (s : List ℕ) (threads slots : ℕ) (thread kind : List ℕ) (sample : List ℤ) (schedule : List ℕ) → readOf s ≡ file threads slots thread kind sample schedule
-    → CanHold threads slots thread kind sample schedule × (s ≡ runText threads slots thread kind sample schedule)
-read-run s n m ts ks xs ss e = (fits-held (read-fits s n m ts ks xs ss e), sym (text-read s n m ts ks xs ss e))
+    → Holds s (file threads slots thread kind sample schedule)
+read-run s n m ts ks xs ss e = (fits-held (read-fits s n m ts ks xs ss e), sym (run-spelled (inputOf n m ts ks xs ss) ∙ text-read s n m ts ks xs ss e))
 
 -- a text with a wrong line is the text of no run
 pub wrong-none : (s : List ℕ) (k : ℕ) → readOf s ≡ wrong k → ¬ IsRun s
-wrong-none s k e r =
-    let a : file (r .threads) (r .slots) (r .thread) (r .kind) (r .sample) (r .schedule) ≡ wrong k = sym (run-read (r .held)) ∙ ap readOf (sym (r .text)) ∙ e in
+wrong-none s k e (i, held, text) =
+    let a : file (i .threads) (i .slots) (i .thread) (i .kind) (i .sample) (i .schedule) ≡ wrong k = sym (run-read held) ∙ ap readOf (sym text) ∙ e in
     let z : _≡_ {A = ℕ} 0 1 = cc in
     omega arith
 
@@ -91,5 +97,5 @@ pub read-or-wrong : (s : List ℕ) → IsRun s ⊎ ((k : ℕ) × (readOf s ≡ w
 read-or-wrong s = go (readOf s) refl
   where
     go : (f : File) → readOf s ≡ f → IsRun s ⊎ ((k : ℕ) × (readOf s ≡ wrong k))
-    go (file n m ts ks xs ss) e = let h = read-run s n m ts ks xs ss e in inl (record { threads = n; slots = m; thread = ts; kind = ks; sample = xs; schedule = ss; held = h .0; text = h .1 })
+    go (file n m ts ks xs ss) e = let h = read-run s n m ts ks xs ss e in inl (inputOf n m ts ks xs ss, h .0, h .1)
     go (wrong k) e = inr (k, e)

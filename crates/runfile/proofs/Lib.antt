@@ -5,6 +5,7 @@ pub mod InputLaws
 pub mod FitLaws
 pub mod TextLaws
 pub mod Round
+pub mod SpellingLaws
 pub mod HoldLaws
 pub mod LinesLaws
 pub mod PastLaws

@@ -11,7 +11,7 @@ use Rattle.numerals.specs.declared.Number.{Number}
 use Rattle.numerals.specs.declared.Number.the-variants as N
 use Rattle.runfile.specs.declared.Operation.{Operation}
 use Rattle.runfile.specs.declared.Operation.the-variants as O
-use Rattle.runfile.specs.RunText.{threadsWord, slotsWord, stepWord}
+use Rattle.runfile.specs.Spelling.{threadsWord, slotsWord, stepWord}
 use Rattle.runfile.specs.Wrong.{File, file, wrong}
 use Rattle.runfile.specs.Reading.{parts, numberAfter, operationOf, addThreads, addSlots, addOp, addStep, orWrong, orSteps, atEnd, stepsFrom, opsFrom, slotsThen, threadsThen}
 use Rattle.runfile.proofs.TurnLaws.{steps-turn, ops-turn, slots-turn, threads-turn}

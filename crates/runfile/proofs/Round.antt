@@ -1,4 +1,4 @@
--- The reading of a run's text is the run's input, and the text of what was read is the text. Assumes nothing.
+-- The reading of a run's text, as Spelling.antt spells it, is the run's input, and the text of what was read is the text. Assumes nothing.
 --   PairIs, OpIs               what is known of a line by its reading: it is the line of what was read
 --   StepsAre .. FileIs         what is known of a text by its reading
 use mathlib.Core.Path.{_≡_, refl, sym, _∙_, ap, subst}
@@ -23,13 +23,15 @@ use Rattle.numerals.proofs.NumeralRound.{NumberIs, number-round, number-is, Sam
 use Rattle.limits.specs.Refusals.{isZero, unfit}
 use Rattle.runfile.specs.declared.Operation.{Operation}
 use Rattle.runfile.specs.declared.Operation.the-variants as O
-use Rattle.runfile.specs.RunText.{threadsWord, slotsWord, putWord, takeWord, stepWord, fields, pairLine, putLine, opLine, ended, opsText, stepsText, runText}
+use Rattle.runfile.specs.Spelling.{threadsWord, slotsWord, putWord, takeWord, stepWord, fields, pairLine, putLine, opLine, ended, opsText, stepsText, spelled}
 use Rattle.runfile.specs.Reading.{parts, same, numberAfter, takeOf, putOf, operationOf, File, file, wrong, addThreads, addSlots, addOp, addStep, orWrong, orSteps, stepsFrom, opsFrom, slotsThen, threadsThen, readOf}
 use Rattle.runfile.specs.Twins.{Free}
 use Rattle.runfile.proofs.PartsLaws.{free-append, parts-append, parts-free, together, together-parts, parts-some}
 use Rattle.runfile.proofs.FieldLaws.{same-is, free-decimal, free-sample, number-after, op-take}
 use Rattle.runfile.proofs.TurnLaws.{steps-turn, ops-turn, slots-turn, threads-turn}
-use Rattle.runfile.proofs.InputLaws.{Passed, GoodOps, GoodSteps, passed-ops, passed-steps}
+use Rattle.limits.specs.Operations.{inputOf}
+use Rattle.limits.proofs.PassLaws.{Passed}
+use Rattle.runfile.proofs.InputLaws.{GoodOps, GoodSteps, passed-ops, passed-steps}
 use Rattle.runfile.proofs.TextLaws.{fit-thread, AllFit}
 
 -- ---- reading what was written: one line
@@ -136,8 +138,8 @@ pub record Fits (threads slots : ℕ) (thread kind : List ℕ) (sample : List �
 
 -- the reading of the text of such numbers is these numbers
 pub read-text : {threads slots : ℕ} {thread kind : List ℕ} {sample : List ℤ} {schedule : List ℕ} → Fits threads slots thread kind sample schedule
-    → readOf (runText threads slots thread kind sample schedule) ≡ file threads slots thread kind sample schedule
-unfolding readOf runText
+    → readOf (spelled threads slots thread kind sample schedule) ≡ file threads slots thread kind sample schedule
+unfolding readOf spelled
 read-text {threads} {slots} {thread} {kind} {sample} {schedule} p =
     let body = opsText thread kind sample ++ stepsText schedule in
     let second = ended (pairLine slotsWord slots) body in
@@ -166,10 +168,10 @@ wider-steps : (threads : ℕ) (schedule : List ℕ) → threads ≤ 16 → GoodS
 wider-steps threads [] h g = tt
 wider-steps threads (t ∷ schedule) h g = (omega (arith, g .0), wider-steps threads schedule h (g .1))
 
-pub passed-fits : {threads slots : ℕ} {thread kind : List ℕ} {sample : List ℤ} {schedule : List ℕ} → Passed threads slots thread kind sample schedule → AllFit sample → Fits threads slots thread kind sample schedule
+pub passed-fits : {threads slots : ℕ} {thread kind : List ℕ} {sample : List ℤ} {schedule : List ℕ} → Passed (inputOf threads slots thread kind sample schedule) → AllFit sample → Fits threads slots thread kind sample schedule
 passed-fits {threads} {slots} {thread} {kind} {sample} {schedule} p f =
-    let a = p .few-threads in
-    let b = p .few-slots in
+    let a = p .threads-most in
+    let b = p .slots-most in
     record {
       threads-fit = omega arith;
       slots-fit = omega arith;
@@ -296,8 +298,8 @@ module _ (s : List ℕ) (threads slots : ℕ) (thread kind : List ℕ) (sample :
   read-is = subst (λ (f : File). FileIs f s) e (subst (FileIs (threadsThen (parts 10 s))) (together-parts 10 s) (file-is (parts 10 s)))
 
   -- the text of what was read is the text
-  pub text-read : runText threads slots thread kind sample schedule ≡ s
-  unfolding runText
+  pub text-read : spelled threads slots thread kind sample schedule ≡ s
+  unfolding spelled
   text-read = read-is .0
 
   -- and its numbers are such as a run file can hold

@@ -9,7 +9,7 @@ use Rattle.numerals.specs.declared.Number.{Number}
 use Rattle.numerals.specs.declared.Number.the-variants as N
 use Rattle.runfile.specs.declared.Operation.{Operation}
 use Rattle.runfile.specs.declared.Operation.the-variants as O
-use Rattle.runfile.specs.RunText.{threadsWord, slotsWord, stepWord, pairLine, opLine, ended, opsText, stepsText}
+use Rattle.runfile.specs.Spelling.{threadsWord, slotsWord, stepWord, pairLine, opLine, ended, opsText, stepsText}
 use Rattle.runfile.specs.Wrong.{wrong}
 use Rattle.runfile.specs.Reading.{parts, numberAfter, operationOf, addThreads, addSlots, addStep, orWrong, orSteps, atEnd, stepsFrom, opsFrom, slotsThen, threadsThen}
 use Rattle.runfile.specs.Twins.{Free}

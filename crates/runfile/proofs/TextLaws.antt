@@ -16,9 +16,11 @@ use Rattle.numerals.specs.Samples.{sampleText}
 use Rattle.numerals.proofs.PrintLaws.{decimal-short}
 use Rattle.numerals.proofs.SampleLaws.{sample-short}
 use Rattle.limits.specs.Refusals.{isZero, unfit}
-use Rattle.runfile.specs.RunText.{takeWord, pairLine, putLine, opLine, opsText, stepsText, runText}
+use Rattle.runfile.specs.Spelling.{takeWord, pairLine, putLine, opLine, opsText, stepsText, spelled}
 use Rattle.runfile.specs.RunText.{Fitting}
-use Rattle.runfile.proofs.InputLaws.{Passed, GoodOps, GoodSteps, passed-ops, passed-steps}
+use Rattle.limits.specs.Operations.{inputOf}
+use Rattle.limits.proofs.PassLaws.{Passed}
+use Rattle.runfile.proofs.InputLaws.{GoodOps, GoodSteps, passed-ops, passed-steps}
 
 abbrev pub AllFit : List ℤ → Type 0
 AllFit [] = Unit {0}
@@ -72,11 +74,11 @@ ops-short threads (t ∷ thread) (k ∷ kind) (x ∷ sample) h g f =
     rw (length-append (opLine t k x) (10 ∷ opsText thread kind sample)) (omega arith)
 
 -- the text of an input that passes is one that the reader takes
-pub text-short : {threads slots : ℕ} {thread kind : List ℕ} {sample : List ℤ} {schedule : List ℕ} → Passed threads slots thread kind sample schedule → AllFit sample → length (runText threads slots thread kind sample schedule) ≤ 65536
-unfolding runText
+pub text-short : {threads slots : ℕ} {thread kind : List ℕ} {sample : List ℤ} {schedule : List ℕ} → Passed (inputOf threads slots thread kind sample schedule) → AllFit sample → length (spelled threads slots thread kind sample schedule) ≤ 65536
+unfolding spelled
 text-short {threads} {slots} {thread} {kind} {sample} {schedule} p f =
-    let a = p .few-threads in
-    let b = p .few-slots in
+    let a = p .threads-most in
+    let b = p .slots-most in
     let c = p .few in
     let d = p .short in
     let e = short-number threads (omega arith) in

@@ -2,7 +2,7 @@
 use mathlib.Core.Path.{_≡_, refl}
 use mathlib.Core.List.{List, [], _∷_}
 use Prim.Native.Nat.{ℕ, suc, _-_}
-use Rattle.runfile.specs.RunText.{threadsWord, slotsWord, stepWord}
+use Rattle.runfile.specs.Spelling.{threadsWord, slotsWord, stepWord}
 use Rattle.runfile.specs.Reading.{parts, numberAfter, operationOf, addThreads, addSlots, addStep, orWrong, orSteps, stepsFrom, opsFrom, slotsThen, threadsThen}
 use Rattle.runfile.proofs.PartsLaws.{Some}
 

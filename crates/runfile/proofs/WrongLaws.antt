@@ -13,31 +13,31 @@ use Prim.Native.Nat.{ℕ, zero, suc, _+_, _-_, _≤_}
 use native.Mathlib.Omega.{arith}
 use lib.Dec.{leb}
 use borrow.Author.Tests.{leb-true, leb-false}
-use Rattle.runfile.specs.RunText.{runText}
+use Rattle.limits.specs.Operations.{inputOf}
+use Rattle.runfile.specs.Spelling.{spelled}
 use Rattle.runfile.specs.Wrong.{IsRun, SameLines, Begins, FirstWrong, File, file, wrong, Holds}
 use Rattle.runfile.specs.Reading.{parts, threadsThen, readOf}
 use Rattle.runfile.proofs.PartsLaws.{parts-some}
 use Rattle.runfile.proofs.LinesLaws.{same-less, same-agree, agree-same}
 use Rattle.runfile.proofs.PastLaws.{NotBefore, IsFile, threads-low, threads-past}
 use Rattle.runfile.proofs.StartLaws.{threads-start}
+use Rattle.runfile.proofs.SpellingLaws.{run-spelled}
 use Rattle.runfile.proofs.HoldLaws.{fits-held, run-read, read-run, wrong-none, read-or-wrong}
 
 -- ---- the lines before a wrong line begin a run file
 start-begins : (k : ℕ) (s : List ℕ) → readOf s ≡ wrong (suc k) → Begins k s
-unfolding readOf runText
+unfolding readOf spelled
 start-begins k s e =
     let r = threads-start k (suc k) (parts 10 s) (parts-some 10 s) (omega arith) e in
     let h = r .4 in
-    let t = runText (r .0) (r .2) (h .thread) (h .kind) (h .sample) (h .schedule) in
-    let held = fits-held (record { threads-fit = r .1; slots-fit = r .3; ops-fit = h .ops; samples-fit = h .samples; steps-fit = h .steps }) in (
-      t,
-      record { threads = r .0; slots = r .2; thread = h .thread; kind = h .kind; sample = h .sample; schedule = h .schedule; held = held; text = refl },
-      agree-same k s t (h .agree),
-    )
+    let i = inputOf (r .0) (r .2) (h .thread) (h .kind) (h .sample) (h .schedule) in
+    let t = spelled (r .0) (r .2) (h .thread) (h .kind) (h .sample) (h .schedule) in
+    let held = fits-held (record { threads-fit = r .1; slots-fit = r .3; ops-fit = h .ops; samples-fit = h .samples; steps-fit = h .steps }) in
+    (t, (i, held, sym {b = t} (run-spelled i)), agree-same k s t (h .agree))
 
 -- ---- and with it they begin none
 run-file : (t : List ℕ) → IsRun t → IsFile (readOf t)
-run-file t r = subst IsFile (sym (ap readOf (r .text) ∙ run-read (r .held))) tt
+run-file t (i, held, text) = subst IsFile (sym (ap readOf text ∙ run-read held)) tt
 
 not-begins : (k : ℕ) (s : List ℕ) → readOf s ≡ wrong k → ¬ Begins k s
 unfolding readOf

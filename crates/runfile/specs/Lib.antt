@@ -1,4 +1,5 @@
 pub mod RunText
+pub mod Spelling
 pub mod Wrong
 pub mod Reading
 pub mod Answers

@@ -20,7 +20,7 @@ use Rattle.numerals.specs.declared.Sample.{Sample}
 use Rattle.numerals.specs.declared.Sample.the-variants as S
 use Rattle.runfile.specs.declared.Operation.{Operation}
 use Rattle.runfile.specs.declared.Operation.the-variants.{Is, Bad}
-use Rattle.runfile.specs.RunText.{threadsWord, slotsWord, putWord, takeWord, stepWord}
+use Rattle.runfile.specs.Spelling.{threadsWord, slotsWord, putWord, takeWord, stepWord}
 pub use Rattle.runfile.specs.Wrong.{File, file, wrong}
 
 -- a byte before the first part

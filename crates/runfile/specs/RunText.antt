@@ -1,14 +1,9 @@
--- The text of a run (document 01, 'Run files'): one record a line, fields parted by one tab, each line ended by a line feed, the last one
--- too. First the threads, then the slots, then all operations, then the schedule. Assumes nothing.
---   threadsWord ..   the words that records begin with
---   fields f g       two fields, parted by a tab (byte 9)
---   pairLine w n     the line of a word and a number
---   putLine t x      the line of a put: its thread and its sample
---   ended l rest     the line l, ended by a line feed (byte 10), and the text after it
---   opsText          the lines of a table's operations, where kind 1 is a put and any other a take
---   stepsText        the lines of a schedule
---   runText          the whole text
---   Fitting          each sample of a list fits 32 signed bits
+-- The text of a run (document 01, 'Run files'): one record a line; first the threads, then the slots, then all operations, then the schedule. Assumes nothing.
+--   opLine      the line of an operation: kind 1 is a put, any other a take
+--   opsText     the lines of a table's operations
+--   stepsText   the lines of a schedule
+--   runText     the whole text
+--   Fitting     each sample of a list fits 32 signed bits
 use mathlib.Core.Bool.{cond}
 use mathlib.Core.List.{List, [], _∷_, _++_}
 use Prim.Native.Nat.{ℕ, _<_}
@@ -17,54 +12,29 @@ use lib.IntN.{ℤ, pos}
 use lib.ListN.{length, getD}
 use mir.Syntax.{w32}
 use mir.Val.{SFits}
+use Rattle.limits.specs.Operations.{Input}
 use Rattle.numerals.specs.Decimal.{decimal}
 use Rattle.numerals.specs.Samples.{sampleText}
-use Rattle.numerals.specs.Words.{bytes}
-
-abbrev pub threadsWord : List ℕ
-threadsWord = bytes "threads"
-
-abbrev pub slotsWord : List ℕ
-slotsWord = bytes "slots"
-
-abbrev pub putWord : List ℕ
-putWord = bytes "put"
-
-abbrev pub takeWord : List ℕ
-takeWord = bytes "take"
-
-abbrev pub stepWord : List ℕ
-stepWord = bytes "step"
-
-abbrev pub fields : List ℕ → List ℕ → List ℕ
-fields f g = f ++ (9 ∷ g)
-
-abbrev pub pairLine : List ℕ → ℕ → List ℕ
-pairLine w n = fields w (decimal n)
-
-abbrev pub putLine : ℕ → ℤ → List ℕ
-putLine t x = fields putWord (fields (decimal t) (sampleText x))
-
-abbrev pub ended : List ℕ → List ℕ → List ℕ
-ended l rest = l ++ (10 ∷ rest)
+use Rattle.numerals.specs.Words.{bytes, line}
 
 abbrev pub opLine : ℕ → ℕ → ℤ → List ℕ
-opLine t k x = cond (eqb k 1) (putLine t x) (pairLine takeWord t)
+opLine t k x = cond (eqb k 1) (line (bytes "put" ∷ decimal t ∷ sampleText x ∷ [])) (line (bytes "take" ∷ decimal t ∷ []))
 
 -- lists that differ in length are refused (3): where one ends, so does the text
 abbrev pub opsText : List ℕ → List ℕ → List ℤ → List ℕ
 opsText [] kind sample = []
 opsText (t ∷ thread) [] sample = []
 opsText (t ∷ thread) (k ∷ kind) [] = []
-opsText (t ∷ thread) (k ∷ kind) (x ∷ sample) = ended (opLine t k x) (opsText thread kind sample)
+opsText (t ∷ thread) (k ∷ kind) (x ∷ sample) = opLine t k x ++ opsText thread kind sample
 
 abbrev pub stepsText : List ℕ → List ℕ
 stepsText [] = []
-stepsText (t ∷ schedule) = ended (pairLine stepWord t) (stepsText schedule)
+stepsText (t ∷ schedule) = line (bytes "step" ∷ decimal t ∷ []) ++ stepsText schedule
 
-unfoldable pub runText : ℕ → ℕ → List ℕ → List ℕ → List ℤ → List ℕ → List ℕ
-runText threads slots thread kind sample schedule =
-    ended (pairLine threadsWord threads) (ended (pairLine slotsWord slots) (opsText thread kind sample ++ stepsText schedule))
+unfoldable pub runText : Input → List ℕ
+runText i =
+    line (bytes "threads" ∷ decimal (i .threads) ∷ []) ++ (line (bytes "slots" ∷ decimal (i .slots) ∷ [])
+    ++ (opsText (i .thread) (i .kind) (i .sample) ++ stepsText (i .schedule)))
 
 abbrev pub Fitting : List ℤ → Type 0
 Fitting sample = (i : ℕ) → i < length sample → SFits w32 (getD sample i (pos 0))

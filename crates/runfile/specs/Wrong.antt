@@ -21,28 +21,22 @@ use lib.ListN.{length, getD}
 use mir.Syntax.{w32}
 use mir.Val.{SFits}
 use Rattle.limits.specs.Lists.{All}
+use Rattle.limits.specs.Operations.{Input, inputOf}
 use Rattle.runfile.specs.RunText.{runText}
 
 abbrev pub OpFits : ℕ → ℕ → ℤ → Type 0
 OpFits t k x = (t ≤ 255) × (((k ≡ 1) × SFits w32 x) ⊎ ((k ≡ 2) × (x ≡ pos 0)))
 
-pub record CanHold (threads slots : ℕ) (thread kind : List ℕ) (sample : List ℤ) (schedule : List ℕ) : Type 0 where
-  pub threads-fit : threads ≤ 255
-  pub slots-fit : slots ≤ 255
-  pub kinds : length kind ≡ length thread
-  pub samples : length sample ≡ length thread
-  pub operations : (o : ℕ) → o < length thread → OpFits (getD thread o 0) (getD kind o 0) (getD sample o (pos 0))
-  pub steps : All (λ t. t ≤ 255) schedule
+pub record CanHold (i : Input) : Type 0 where
+  pub threads-fit : i .threads ≤ 255
+  pub slots-fit : i .slots ≤ 255
+  pub kinds : length (i .kind) ≡ length (i .thread)
+  pub samples : length (i .sample) ≡ length (i .thread)
+  pub operations : (o : ℕ) → o < length (i .thread) → OpFits (getD (i .thread) o 0) (getD (i .kind) o 0) (getD (i .sample) o (pos 0))
+  pub steps : All (λ t. t ≤ 255) (i .schedule)
 
-pub record IsRun (s : List ℕ) : Type 0 where
-  pub threads : ℕ
-  pub slots : ℕ
-  pub thread : List ℕ
-  pub kind : List ℕ
-  pub sample : List ℤ
-  pub schedule : List ℕ
-  pub held : CanHold threads slots thread kind sample schedule
-  pub text : s ≡ runText threads slots thread kind sample schedule
+abbrev pub IsRun : List ℕ → Type 0
+IsRun s = (i : Input) × CanHold i × (s ≡ runText i)
 
 abbrev pub SameLines : ℕ → List ℕ → List ℕ → Type 0
 SameLines zero s t = Unit {0}
@@ -62,5 +56,5 @@ pub data File : Type 0 where
   wrong : ℕ → File
 
 abbrev pub Holds : List ℕ → File → Type 0
-Holds s (file threads slots thread kind sample schedule) = CanHold threads slots thread kind sample schedule × (s ≡ runText threads slots thread kind sample schedule)
+Holds s (file threads slots thread kind sample schedule) = let i = inputOf threads slots thread kind sample schedule in CanHold i × (s ≡ runText i)
 Holds s (wrong k) = (¬ IsRun s) × FirstWrong s k

@@ -2,7 +2,7 @@
 use mathlib.Core.Path.{_≡_, refl, sym, ap, _∙_, subst}
 use mathlib.Core.Bool.{Bool, true, false, cond}
 use mathlib.Core.List.{List, [], _∷_, _++_, map, append-assoc, append-nil}
-use Prim.Native.Nat.{ℕ, zero, suc, _+_, _-_, _*_, _≤_, _<_}
+use Prim.Native.Nat.{ℕ, suc, _+_, _-_, _≤_, _<_}
 use native.Mathlib.Omega.{arith}
 use native.Mathlib.Numerals.{add-one}
 use lib.Dec.{ltb, eqb}
@@ -12,6 +12,7 @@ use lib.Seq.{drop-cons, drop-length, take-suc, take-all, length-take-le, set-at}
 use borrow.Author.Tests.{ltb-true}
 use Rattle.limits.specs.declared.Refusal.{Refusal}
 use Rattle.limits.specs.declared.Fit.the-variants.{Pass, Refused}
+use Rattle.limits.specs.Operations.{inputOf}
 use Rattle.limits.specs.Refusals.{inputRefusal}
 use Rattle.limits.proofs.PassLaws.{input-passed, fit-thread}
 use Rattle.stepping.specs.declared.Doing.{Doing}
@@ -20,7 +21,7 @@ use Rattle.stepping.specs.declared.Thread.{Thread}
 use Rattle.stepping.specs.declared.Core.{Core}
 use Rattle.stepping.specs.declared.Moved.{Moved}
 use Rattle.stepping.specs.declared.State.{State}
-use Rattle.stepping.specs.Twins.{Within, Turn, turnOf, acted, World, stepWorld, runWorld, resting, movedOf, calledMoved, reservedMoved, begunMoved, passedMoved, swappedMoved, swapMore, findMore, bare, getIn, eventMore, idleMore, backMore, firstDoing, fruitlessMore, coreIn, startState, waiting, Playable, roomFit, idleWorld, playRun, playWorld, playFit, playTwin}
+use Rattle.stepping.specs.Twins.{Within, turnOf, acted, World, stepWorld, runWorld, resting, movedOf, calledMoved, reservedMoved, begunMoved, passedMoved, swappedMoved, swapMore, findMore, bare, getIn, eventMore, idleMore, backMore, firstDoing, fruitlessMore, coreIn, startState, waiting, Playable, roomFit, idleWorld, playRun, playWorld, playFit, playTwin}
 use Rattle.stepping.specs.PlanTwin.{planOne, planFrom}
 
 -- a turn is its parts
@@ -134,27 +135,27 @@ start-end first l t lt ll = rw (take-all t first lt, drop-of-length-le l ll, app
 -- ---- the whole, by what the tests of the input say
 
 module _ (threads slots : ℕ) (thread kind : List ℕ) (sample : List ℤ) (schedule : List ℕ) (roomy : Bool) (cs : List ℕ) (vs : List ℤ) (ts ps : List ℕ) where
-  pub refused-fit : (r : Refusal) → inputRefusal threads slots thread kind sample schedule ≡ Refused r → Refused r ≡ playFit threads slots thread kind sample schedule roomy cs vs
+  pub refused-fit : (r : Refusal) → inputRefusal (inputOf threads slots thread kind sample schedule) ≡ Refused r → Refused r ≡ playFit threads slots thread kind sample schedule roomy cs vs
   unfolding playFit
   refused-fit r e = rw e
 
-  pub refused-world : (r : Refusal) → inputRefusal threads slots thread kind sample schedule ≡ Refused r → idleWorld cs vs ts ps ≡ playTwin threads slots thread kind sample schedule roomy cs vs ts ps
+  pub refused-world : (r : Refusal) → inputRefusal (inputOf threads slots thread kind sample schedule) ≡ Refused r → idleWorld cs vs ts ps ≡ playTwin threads slots thread kind sample schedule roomy cs vs ts ps
   unfolding playFit playTwin
   refused-world r e = rw e
 
-  pub passed-fit : inputRefusal threads slots thread kind sample schedule ≡ Pass → roomFit roomy thread cs vs ≡ playFit threads slots thread kind sample schedule roomy cs vs
+  pub passed-fit : inputRefusal (inputOf threads slots thread kind sample schedule) ≡ Pass → roomFit roomy thread cs vs ≡ playFit threads slots thread kind sample schedule roomy cs vs
   unfolding playFit
   passed-fit e = rw e
 
-  pub passed-world : inputRefusal threads slots thread kind sample schedule ≡ Pass
+  pub passed-world : inputRefusal (inputOf threads slots thread kind sample schedule) ≡ Pass
       → playWorld (roomFit roomy thread cs vs) (playRun thread kind sample schedule cs vs ts ps) (idleWorld cs vs ts ps) ≡ playTwin threads slots thread kind sample schedule roomy cs vs ts ps
   unfolding playFit playTwin
   passed-world e = rw e
 
   -- what passes 1 to 8 can be played
-  pub playable : inputRefusal threads slots thread kind sample schedule ≡ Pass → Playable thread schedule
+  pub playable : inputRefusal (inputOf threads slots thread kind sample schedule) ≡ Pass → Playable thread schedule
   playable e =
-      let p = input-passed threads slots thread kind sample schedule e in
+      let p = input-passed (inputOf threads slots thread kind sample schedule) e in
       record {
         few = p .few;
         owned = λ k lt. omega (arith, p .threads-most, fit-thread threads (getD thread k 0) (getD kind k 0) (getD sample k (pos 0)) (p .fit k lt));

@@ -2,7 +2,7 @@
 --   planOne    a plan with operation o, of thread t, put in front
 --   planFrom   the plan of a table's threads from operation o on
 use mathlib.Core.List.{List, [], _∷_}
-use Prim.Native.Nat.{ℕ, zero, suc}
+use Prim.Native.Nat.{ℕ, suc}
 use lib.ListN.{getD, set, replicate}
 use Rattle.stepping.specs.declared.plan.Plan.{Plan}
 

@@ -5,15 +5,16 @@
 --   World           a state, with the lists that the run writes
 --   stepWorld, runWorld   one step, and a schedule's steps
 --   playTwin        the whole of `play`
-use mathlib.Core.Bool.{Bool, true, false, cond, _&&_}
+use mathlib.Core.Bool.{Bool, cond, _&&_}
 use mathlib.Core.List.{List, [], _∷_, map}
-use Prim.Native.Nat.{ℕ, zero, suc, _+_, _*_, _≤_, _<_}
+use Prim.Native.Nat.{ℕ, _+_, _*_, _≤_, _<_}
 use lib.Dec.{ltb, leb, eqb}
 use lib.IntN.{ℤ, pos}
 use lib.ListN.{length, getD, set, replicate}
 use Rattle.limits.specs.declared.Refusal.the-variants.{Room}
 use Rattle.limits.specs.declared.Fit.{Fit}
 use Rattle.limits.specs.declared.Fit.the-variants.{Pass, Refused}
+use Rattle.limits.specs.Operations.{inputOf}
 use Rattle.limits.specs.Refusals.{inputRefusal, andThen, unless}
 use Rattle.stepping.specs.declared.Doing.{Doing}
 use Rattle.stepping.specs.declared.Doing.the-variants.{Rest, CalledPut, Reserved, Stored, CalledTake, Scanning, Holding}
@@ -215,7 +216,7 @@ playWorld (Refused r) ran idle = idle
 
 unfoldable pub playFit : ℕ → ℕ → List ℕ → List ℕ → List ℤ → List ℕ → Bool → List ℕ → List ℤ → Fit
 playFit threads slots thread kind sample schedule roomy cs vs =
-    andThen (inputRefusal threads slots thread kind sample schedule) (roomFit roomy thread cs vs)
+    andThen (inputRefusal (inputOf threads slots thread kind sample schedule)) (roomFit roomy thread cs vs)
 
 unfoldable pub playTwin : ℕ → ℕ → List ℕ → List ℕ → List ℤ → List ℕ → Bool → List ℕ → List ℤ → List ℕ → List ℕ → World
 playTwin threads slots thread kind sample schedule roomy cs vs ts ps =

@@ -1,47 +1,45 @@
 -- The listed order of every run is a linearization of its history, and the judge's verdict on it is 0 (demand 3; document 01, 'The judge'). Assumes nothing.
-use mathlib.Core.Path.{_≡_, refl, sym, ap, _∙_}
+use mathlib.Core.Path.{_≡_, sym, _∙_}
 use mathlib.Core.Logic.{inl}
 use mathlib.Core.List.{List, [], _∷_, _++_, map}
-use mathlib.Core.Option.{Option, some}
-use Prim.Native.Nat.{ℕ, _+_, _≤_, _<_}
+use Prim.Native.Nat.{ℕ, _+_, _<_}
 use lib.IntN.{ℤ, pos}
 use lib.ListN.{length, getD, take, length-map}
-use Rattle.limits.specs.Lists.{All, Mem, Pw}
-use Rattle.limits.specs.Operations.{Kind, putting, taking, Table, tableOf, putsIn}
+use Rattle.limits.specs.Lists.{All}
+use Rattle.limits.specs.Operations.{Kind, putting, taking, Table}
 use Rattle.history.specs.History.{codeOf, eventOf, events}
 use Rattle.history.specs.Standing.{CanStand}
 use Rattle.history.proofs.ListLaws.{all-imp}
-use Rattle.history.proofs.PrecedenceLists.{all-of-getD}
 use Rattle.history.proofs.PrecedenceLaws.{events-back, code-stands}
 use Rattle.order.proofs.MergeRowsLaws.{PlaysAt as MeetsAt, Plays as Meets}
 use Rattle.linear.specs.declared.Verdict.the-variants.{Linear}
 use Rattle.linear.specs.Conditions.{MayGet, PlaysAt, Plays, Not20, Not21, Not22, Not23, Not24}
 use Rattle.linear.specs.Verdict.{verdict}
-use Rattle.linear.specs.Linear.{Linearizes}
 use Rattle.linear.proofs.SoundLaws.{conditions-linearize}
 use Rattle.linear.proofs.VerdictLaws.{verdict-0}
 use Rattle.machine.specs.Bench.{Bench, start, played}
-use Rattle.machine.specs.Counts.{over, storeStep, findStep}
-use Rattle.machine.specs.Shown.{filled, mark, held, order, codes, samples, records}
+use Rattle.machine.specs.Counts.{counted, isStore, isFind}
+use Rattle.machine.specs.Shown.{mark, held, order, codes, samples, records}
 use Rattle.machine.proofs.CountLaws.{PutsAtMost}
-use Rattle.machine.proofs.RunLaws.{Run, run-played, history-stands, history-right, history-sound, puts-fit, stores-finds}
-use Rattle.machine.proofs.ChainLaws.{OrderedAt, ordered-played}
+use Rattle.machine.proofs.RunLaws.{Run, history-stands, history-right, history-sound, stores-finds}
+use Rattle.machine.proofs.CountedLaws.{stores-counted, finds-counted}
+use Rattle.machine.proofs.ChainLaws.{OrderedAt}
 use Rattle.machine.proofs.DemandLaws.{Gets, stays, run-plays, listed-only, listed-all, listed-called, run-once, run-keeps, gets-one}
-use Rattle.theorems.specs.Demand.{remainsAt, remains, Linearized}
+use Rattle.theorems.specs.Demand.{Linearized}
 use Rattle.theorems.specs.Demand as shown
-use Rattle.theorems.proofs.ShownLaws.{stays-shown, listed-shown, shown-listed, gets-shown}
+use Rattle.theorems.proofs.ShownLaws.{stays-shown, filled-shown, listed-shown, shown-listed, gets-shown}
 
--- a play that names what each take gets and what stays, as the judge's play and what remains
-plays-remains : (T : Table) (Get Get′ : ℕ → ℤ → Type 0) → ((o : ℕ) (x : ℤ) → Get o x → Get′ o x) → (l : List ℕ) (q rest : List ℤ) → Meets T Get q l rest
-    → Plays (T .kind) (T .sample) Get′ q l × (remains (T .kind) (T .sample) q l ≡ rest)
-plays-remains T Get Get′ imp [] q rest p = (tt, p)
-plays-remains T Get Get′ imp (o ∷ l) q rest p = go (T .kind o) p (λ r n. plays-remains T Get Get′ imp l r rest n)
+-- a play that names what each take gets and what stays, as the judge's play
+plays-shown : (T : Table) (Get Get′ : ℕ → ℤ → Type 0) (End : List ℤ → Type 0) (rest : List ℤ) → ((o : ℕ) (x : ℤ) → Get o x → Get′ o x) → End rest
+    → (l : List ℕ) (q : List ℤ) → Meets T Get q l rest → Plays (T .kind) (T .sample) Get′ End q l
+plays-shown T Get Get′ End rest imp end [] q p = rw p end
+plays-shown T Get Get′ End rest imp end (o ∷ l) q p = go (T .kind o) p (plays-shown T Get Get′ End rest imp end l)
   where
     go : (k : Kind) → MeetsAt Get k o (T .sample o) q (λ r. Meets T Get r l rest)
-        → ((r : List ℤ) → Meets T Get r l rest → Plays (T .kind) (T .sample) Get′ r l × (remains (T .kind) (T .sample) r l ≡ rest))
-        → PlaysAt k (T .sample o) (Get′ o) q (λ r. Plays (T .kind) (T .sample) Get′ r l) × (remains (T .kind) (T .sample) (remainsAt k (T .sample o) q) l ≡ rest)
+        → ((r : List ℤ) → Meets T Get r l rest → Plays (T .kind) (T .sample) Get′ End r l)
+        → PlaysAt k (T .sample o) (Get′ o) q (λ r. Plays (T .kind) (T .sample) Get′ End r l)
     go putting n ih = ih (q ++ (T .sample o ∷ [])) n
-    go taking n ih = let k = ih (n .1) (n .4) in rw (n .2) ((imp o (n .0) (n .3), k .0), k .1)
+    go taking n ih = rw (n .2) (imp o (n .0) (n .3), ih (n .1) (n .4))
 
 -- ---- the five conditions, of a bench that a run comes to
 
@@ -59,18 +57,18 @@ module _ (T : Table) (n m : ℕ) (B : Bench) (r : Run T n m B) (i : OrderedAt T 
   run-23 = run-keeps T n m B r i
 
   pub run-24 : Not24 T (B .history) (order B)
-  run-24 = plays-remains T (Gets T B) (MayGet (B .history)) (gets-one T n m B r i) (order B) [] (stays (B .slots)) (run-plays T n m B r i) .0
+  run-24 = plays-shown T (Gets T B) (MayGet (B .history)) (λ q. Unit {0}) (stays (B .slots)) (gets-one T n m B r i) tt (order B) [] (run-plays T n m B r i)
 
   pub run-linearized : Linearized T (B .history) (records B) (map mark (B .slots)) (map held (B .slots)) (order B)
   run-linearized =
-      let p = plays-remains T (Gets T B) (shown.Gets T (B .history) (records B)) (gets-shown T n m B r i) (order B) [] (stays (B .slots)) (run-plays T n m B r i) in
       record {
         only = λ o k. listed-shown T n m B r i o (listed-only T n m B r i o k);
         every = λ o k. listed-all T n m B r i o (shown-listed T n m B r i o k);
         once = run-once T n m B r i;
         kept = run-keeps T n m B r i;
-        played = p .0;
-        left = p .1 ∙ stays-shown (B .slots);
+        played =
+            plays-shown T (Gets T B) (shown.Gets T (B .history) (records B)) (λ q. q ≡ shown.stays (map mark (B .slots)) (map held (B .slots))) (stays (B .slots))
+            (gets-shown T n m B r i) (stays-shown (B .slots)) (order B) [] (run-plays T n m B r i);
         linear = conditions-linearize T (B .history) (order B) (history-sound T n m B r) run-20 run-21 run-22 run-23 run-24;
       }
 
@@ -88,29 +86,15 @@ module _ (T : Table) (n m : ℕ) (B : Bench) (r : Run T n m B) (i : OrderedAt T 
   pub run-verdict : verdict T (events T (codes B) (samples B)) (order B) ≡ Linear
   run-verdict = rw run-events (verdict-0 T (B .history) (order B) run-20 run-21 run-22 run-23 run-24)
 
--- ---- after every schedule of an accepted run: as many kinds as operations, no more puts than slots, every entry a thread
+-- ---- after every schedule whose entries are threads, for no more puts than slots
 
-module _ (threads slots : ℕ) (thread kind : List ℕ) (sample : List ℤ) (schedule : List ℕ)
-    (kinds : length kind ≡ length thread) (puts : putsIn kind ≤ slots) (named : (i : ℕ) → i < length schedule → getD schedule i 0 < threads) where
-  abbrev T : Table
-  T = tableOf thread kind sample
-
+module _ (T : Table) (threads slots : ℕ) (schedule : List ℕ) (most : PutsAtMost T slots) (named : All (λ t. t < threads) schedule) where
   abbrev after : Bench
   after = played T (start T threads slots) schedule
 
-  most : PutsAtMost T slots
-  most = puts-fit thread kind sample kinds slots puts
-
-  fit : All (λ t. t < threads) schedule
-  fit = all-of-getD (λ t. t < threads) schedule 0 named
-
-  pub demand-three : Linearized T (after .history) (records after) (map mark (after .slots)) (map held (after .slots)) (order after)
-  demand-three = run-linearized T threads slots after (run-played T threads slots most schedule fit) (ordered-played T threads slots most schedule fit)
-
-  -- the judge gets the run's codes, samples and order, and says 0
-  pub judged-linear : verdict T (events T (codes after) (samples after)) (order after) ≡ Linear
-  judged-linear = run-verdict T threads slots after (run-played T threads slots most schedule fit) (ordered-played T threads slots most schedule fit)
-
   -- stores = finds + filled slots
-  pub stores-balance : over storeStep T (start T threads slots) schedule ≡ over findStep T (start T threads slots) schedule + filled (after .slots)
-  stores-balance = stores-finds T threads slots most schedule fit
+  pub stores-balance :
+      counted isStore T (start T threads slots) schedule ≡ counted isFind T (start T threads slots) schedule + length (shown.stays (map mark (after .slots)) (map held (after .slots)))
+  stores-balance =
+      sym (stores-counted T threads slots most schedule named) ∙ stores-finds T threads slots most schedule named
+      ∙ (λ i. finds-counted T threads slots most schedule named i + filled-shown (after .slots) i)

@@ -3,20 +3,21 @@
 use mathlib.Core.Path.{_≡_, refl, sym, ap, _∙_}
 use mathlib.Core.Logic.{_⊎_, inl, inr}
 use mathlib.Core.List.{List, [], _∷_, map}
-use mathlib.Core.Option.{Option, some}
+use mathlib.Core.Option.{some}
 use Prim.Native.Nat.{ℕ, zero, suc, _<_}
 use native.Mathlib.Decide.{decLt}
 use native.Mathlib.Omega.{arith}
 use lib.IntN.{ℤ}
-use lib.ListN.{getD, List·getD-eq-default}
+use lib.ListN.{length, getD, List·getD-eq-default}
 use Rattle.limits.specs.Operations.{Kind, putting, taking, Table}
 use Rattle.history.specs.History.{Returned}
 use Rattle.history.proofs.ListLaws.{clash}
 use Rattle.linear.specs.Linear.{Pending}
 use Rattle.machine.specs.declared.Phase.{Phase}
-use Rattle.machine.specs.declared.Phase.the-variants.{Rest, Stored, Holding}
+use Rattle.machine.specs.declared.Phase.the-variants.{Stored, Holding}
 use Rattle.machine.specs.Bench.{Slot, Empty, Filled, Worker, Bench, idler}
-use Rattle.machine.specs.Shown.{mark, held, recordOf, records}
+use Rattle.machine.specs.Shown.{mark, held, records}
+use Rattle.machine.specs.StepCounts.{filled}
 use Rattle.machine.proofs.WorkingLaws.{kindAt, AtWork as IsIt, Place}
 use Rattle.machine.proofs.FindLaws.{InPhase}
 use Rattle.machine.proofs.RunLaws.{Run}
@@ -25,7 +26,7 @@ use Rattle.machine.proofs.DemandLaws as bench
 use Rattle.theorems.specs.Demand.{phaseIn, AtWork, Listed, Gets, stays}
 
 -- a record shows its thread's phase; where there is no thread, both are at rest
-phase-shown : (ws : List Worker) (t : ℕ) → phaseIn (map recordOf ws) t ≡ getD ws t idler .phase
+phase-shown : (ws : List Worker) (t : ℕ) → phaseIn (map (λ (w : Worker). record { phase = w .phase }) ws) t ≡ getD ws t idler .phase
 phase-shown [] t = refl
 phase-shown (w ∷ ws) zero = refl
 phase-shown (w ∷ ws) (suc t) = phase-shown ws t
@@ -35,6 +36,13 @@ pub stays-shown : (ss : List Slot) → bench.stays ss ≡ stays (map mark ss) (m
 stays-shown [] = refl
 stays-shown (Empty ∷ ss) = stays-shown ss
 stays-shown (Filled x ∷ ss) = ap (λ l. x ∷ l) (stays-shown ss)
+
+-- as many samples stay as slots are filled
+pub filled-shown : (ss : List Slot) → filled ss ≡ length (stays (map mark ss) (map held ss))
+unfolding filled
+filled-shown [] = refl
+filled-shown (Empty ∷ ss) = omega (arith, filled-shown ss)
+filled-shown (Filled x ∷ ss) = omega (arith, filled-shown ss)
 
 module _ (T : Table) (n m : ℕ) (B : Bench) (r : Run T n m B) (i : OrderedAt T n B) where
   -- an operation at work is pending

@@ -11,10 +11,10 @@ use Rattle.numerals.specs.declared.Number.{Number}
 use Rattle.numerals.specs.declared.Number.the-variants as N
 use Rattle.runfile.specs.declared.Operation.{Operation}
 use Rattle.runfile.specs.declared.Operation.the-variants.{Is, Bad}
-use Rattle.runfile.specs.declared.Read.the-variants.{Refused}
-use Rattle.runfile.specs.RunText.{threadsWord, slotsWord, stepWord}
-use Rattle.runfile.specs.Reading.{parts, numberAfter, operationOf, File, file, wrong, addThreads, addSlots, addOp, addStep, orWrong, orSteps, atEnd, stepsFrom, opsFrom, slotsThen, threadsThen, readOf}
-use Rattle.runfile.specs.Answers.{fileAnswer, readAnswer}
+use Rattle.limits.specs.declared.Fit.the-variants.{Refused}
+use Rattle.runfile.specs.Spelling.{threadsWord, slotsWord, stepWord}
+use Rattle.runfile.specs.Reading.{parts, numberAfter, operationOf, File, file, wrong, addThreads, addSlots, addStep, orWrong, orSteps, atEnd, stepsFrom, opsFrom, slotsThen, threadsThen, readOf}
+use Rattle.runfile.specs.Answers.{fileFit, readFit}
 
 abbrev pub Even : File → Type 0
 Even (file a b thread kind sample schedule) = (length kind ≡ length thread) × (length sample ≡ length thread)
@@ -71,6 +71,6 @@ pub read-even : (text : List ℕ) → Even (readOf text)
 unfolding readOf
 read-even text = even-all (parts 10 text)
 
-pub empty-text : (inThread inKind inSample inSchedule : ℕ) → readAnswer [] inThread inKind inSample inSchedule ≡ Refused (Line 1)
-unfolding readAnswer fileAnswer readOf
+pub empty-text : (inThread inKind inSample inSchedule : ℕ) → readFit [] inThread inKind inSample inSchedule ≡ Refused (Line 1)
+unfolding readFit fileFit readOf
 empty-text inThread inKind inSample inSchedule = refl

@@ -4,20 +4,19 @@
 --   AtWork         operation o was called and has not returned, and its thread is in phase p
 --   Listed         o has returned, or is a put that stored, or a take that found
 --   Gets           take o returned x, or holds x
---   remains        what a plain queue holds after an order was played on it
 --   stays          the samples of the filled slots, from the lowest slot to the highest
 --   Linearized     the claim
 use mathlib.Core.Path.{_≡_}
 use mathlib.Core.Bool.{cond}
 use mathlib.Core.Logic.{_≢_, _⊎_}
-use mathlib.Core.List.{List, [], _∷_, _++_}
+use mathlib.Core.List.{List, [], _∷_}
 use mathlib.Core.Option.{some}
 use Prim.Native.Nat.{ℕ}
 use lib.Dec.{eqb}
 use lib.IntN.{ℤ}
 use lib.ListN.{getD}
 use Rattle.limits.specs.Lists.{Mem, Pw}
-use Rattle.limits.specs.Operations.{Kind, putting, taking, Table}
+use Rattle.limits.specs.Operations.{Table}
 use Rattle.history.specs.History.{Event, ret, Returned, Precedes}
 use Rattle.linear.specs.Conditions.{Plays}
 use Rattle.linear.specs.Linear.{Pending, Linearizes}
@@ -38,16 +37,6 @@ module _ (T : Table) (h : List Event) (rs : List ThreadRecord) where
   abbrev pub Gets : ℕ → ℤ → Type 0
   Gets o x = Mem (ret o (some x)) h ⊎ AtWork o (Holding x)
 
--- a put's sample goes to the back, a take takes the front
-abbrev pub remainsAt : Kind → ℤ → List ℤ → List ℤ
-remainsAt putting x q = q ++ (x ∷ [])
-remainsAt taking x [] = []
-remainsAt taking x (v ∷ q) = q
-
-abbrev pub remains : (ℕ → Kind) → (ℕ → ℤ) → List ℤ → List ℕ → List ℤ
-remains kind sample q [] = q
-remains kind sample q (o ∷ l) = remains kind sample (remainsAt (kind o) (sample o) q) l
-
 abbrev pub stays : List ℕ → List ℤ → List ℤ
 stays [] held = []
 stays (m ∷ marks) [] = []
@@ -60,8 +49,7 @@ pub record Linearized (T : Table) (h : List Event) (rs : List ThreadRecord) (mar
   pub once : Pw (λ a b. a ≢ b) order
   -- no later one precedes an earlier one
   pub kept : Pw (λ b a. ¬ Precedes h a b) order
-  -- on a plain queue that starts empty each take gets what it got in the run, and what is left are the samples of the filled slots
-  pub played : Plays (T .kind) (T .sample) (Gets T h rs) [] order
-  pub left : remains (T .kind) (T .sample) [] order ≡ stays marks held
+  -- on a plain queue that starts empty each take gets what it got in the run, and what stays are the samples of the filled slots
+  pub played : Plays (T .kind) (T .sample) (Gets T h rs) (λ q. q ≡ stays marks held) [] order
   -- so the order is a linearization of the history
   pub linear : Linearizes T h order

@@ -3,13 +3,13 @@
 --   resultOf   the result of a run
 --   Worked     the table: each run with its result as the document gives it, and the judge's answers on run A's history
 use mathlib.Core.Path.{_≡_}
-use mathlib.Core.List.{List, [], _∷_, map}
+use mathlib.Core.List.{List, [], _∷_}
 use Prim.Native.Nat.{ℕ}
 use lib.IntN.{ℤ, pos}
 use lib.ListN.{length}
 use Rattle.limits.specs.declared.Fit.{Fit}
 use Rattle.limits.specs.declared.Fit.the-variants.{Pass}
-use Rattle.limits.specs.Operations.{Table, tableOf}
+use Rattle.limits.specs.Operations.{tableOf, inputOf}
 use Rattle.limits.specs.Refusals.{inputRefusal}
 use Rattle.linear.specs.declared.Verdict.the-variants.{Linear, NoOperation, Missing, Turned, Unplayable}
 use Rattle.judge.specs.declared.Judged.{Judged}
@@ -17,8 +17,8 @@ use Rattle.judge.specs.declared.Judged.the-variants.{Says}
 use Rattle.judge.specs.Judge.{judged}
 use Rattle.machine.specs.declared.Phase.{Phase}
 use Rattle.machine.specs.declared.Phase.the-variants.{Rest, Reserved, Stored, CalledTake, Holding}
-use Rattle.machine.specs.Bench.{Slot, Empty, Filled, Worker, Bench, back, start, played}
-use Rattle.machine.specs.Counts.{over, idleStep, storeStep, swapStep, findStep, fruitlessStep}
+use Rattle.machine.specs.Bench.{Slot, Empty, Filled, Worker, back, start, played}
+use Rattle.machine.specs.Counts.{counted, isIdle, isStore, isSwap, isFind, isFruitless}
 use Rattle.machine.specs.Shown.{codes, samples, order}
 
 pub record Result : Type 0 where
@@ -46,7 +46,7 @@ resultOf threads slots thread kind sample schedule =
     let S = start T threads slots in
     let B = played T S schedule in
     record {
-      fit = inputRefusal threads slots thread kind sample schedule;
+      fit = inputRefusal (inputOf threads slots thread kind sample schedule);
       back = back B;
       codes = codes B;
       samples = samples B;
@@ -54,11 +54,11 @@ resultOf threads slots thread kind sample schedule =
       slots = B .slots;
       phases = phasesIn (B .workers);
       steps = length schedule;
-      idle = over idleStep T S schedule;
-      stores = over storeStep T S schedule;
-      swaps = over swapStep T S schedule;
-      finds = over findStep T S schedule;
-      fruitless = over fruitlessStep T S schedule;
+      idle = counted isIdle T S schedule;
+      stores = counted isStore T S schedule;
+      swaps = counted isSwap T S schedule;
+      finds = counted isFind T S schedule;
+      fruitless = counted isFruitless T S schedule;
     }
 
 -- runs A and B: two puts, threads 0 and 1, and a take, thread 2

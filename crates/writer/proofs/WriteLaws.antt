@@ -18,16 +18,17 @@ use Rattle.numerals.specs.Places.{Put}
 use Rattle.numerals.proofs.PrintLaws.{put-then, put-as, put-none}
 use Rattle.limits.specs.declared.Refusal.{Refusal}
 use Rattle.limits.specs.declared.Refusal.the-variants.{Room}
-use Rattle.limits.specs.declared.Fit.{Fit}
 use Rattle.limits.specs.declared.Fit.the-variants.{Pass, Refused}
+use Rattle.limits.specs.Operations.{Input, inputOf}
 use Rattle.limits.specs.Refusals.{inputRefusal}
 use Rattle.runfile.specs.declared.Written.the-variants as Wr
-use Rattle.runfile.specs.RunText.{threadsWord, slotsWord, putWord, stepWord, pairLine, putLine, opLine, ended, opsText, stepsText, runText}
-use Rattle.runfile.specs.Answers.{writeAnswer, WriteSays}
 use Rattle.runfile.specs.RunText.{Fitting}
-use Rattle.runfile.proofs.InputLaws.{passed}
+use Rattle.runfile.specs.Spelling.{threadsWord, slotsWord, putWord, stepWord, pairLine, putLine, opLine, ended, opsText, stepsText, spelled}
+use Rattle.runfile.specs.Answers.{writeFit, WriteSays}
+use Rattle.limits.proofs.PassLaws.{input-passed}
 use Rattle.runfile.proofs.FitLaws.{over-sets}
 use Rattle.runfile.proofs.TextLaws.{all-fit, text-short}
+use Rattle.runfile.proofs.SpellingLaws.{run-spelled}
 
 -- a line and what follows it
 pub ended-then : (l rest : List ℕ) → ended l [] ++ rest ≡ ended l rest
@@ -90,8 +91,8 @@ fit-next sample i low here j h = go (ltb j i) refl
 
 -- ---- the whole text, and the writer's answers
 pub run-text : (threads slots : ℕ) (thread kind : List ℕ) (sample : List ℤ) (schedule : List ℕ)
-    → ((ended (pairLine threadsWord threads) [] ++ ended (pairLine slotsWord slots) []) ++ opsText thread kind sample) ++ stepsText schedule ≡ runText threads slots thread kind sample schedule
-unfolding runText
+    → ((ended (pairLine threadsWord threads) [] ++ ended (pairLine slotsWord slots) []) ++ opsText thread kind sample) ++ stepsText schedule ≡ spelled threads slots thread kind sample schedule
+unfolding spelled
 run-text threads slots thread kind sample schedule =
     let a = pairLine threadsWord threads in
     let b = pairLine slotsWord slots in
@@ -100,27 +101,30 @@ run-text threads slots thread kind sample schedule =
     append-assoc (ended a [] ++ ended b []) c d ∙ append-assoc (ended a []) (ended b []) (c ++ d) ∙ ap (λ (t : List ℕ). ended a [] ++ t) (ended-then b (c ++ d)) ∙ ended-then a (ended b (c ++ d))
 
 module _ (threads slots : ℕ) (thread kind : List ℕ) (sample : List ℤ) (schedule text : List ℕ) where
-  abbrev entered : Fit
-  entered = inputRefusal threads slots thread kind sample schedule
+  abbrev i : Input
+  i = inputOf threads slots thread kind sample schedule
 
   abbrev whole : List ℕ
-  whole = runText threads slots thread kind sample schedule
+  whole = spelled threads slots thread kind sample schedule
 
-  pub write-refused : (x : Refusal) → entered ≡ Refused x → WriteSays threads slots thread kind sample schedule text (Wr.Refused x) text
-  unfolding writeAnswer
-  write-refused x e = record { answer = rw e; bytes = refl }
+  pub write-refused : (x : Refusal) → inputRefusal i ≡ Refused x → WriteSays i text (Wr.Refused x) text
+  unfolding writeFit
+  write-refused x e = record { answer = rw e; bytes = rw e }
 
-  module _ (e : entered ≡ Pass) (f : Fitting sample) (b : ℕ) (none none′ : List ℕ) (p : Put none 0 whole b none′) where
+  module _ (e : inputRefusal i ≡ Pass) (f : Fitting sample) (b : ℕ) (none none′ : List ℕ) (p : Put none 0 whole b none′) where
     -- the place after a text put from 0 on is its length, since that is small
     bytes-are : b ≡ length whole
-    bytes-are = omega (arith, p .place, text-short (passed threads slots thread kind sample schedule e) (all-fit sample f))
+    bytes-are = omega (arith, p .place, text-short (input-passed (inputOf threads slots thread kind sample schedule) e) (all-fit sample f))
 
-    pub write-no-room : length text < b → WriteSays threads slots thread kind sample schedule text (Wr.Refused Room) text
-    unfolding writeAnswer
-    write-no-room h = record { answer = rw (e, lt-leb (length whole) (length text) (omega (arith, bytes-are))); bytes = refl }
+    pub write-no-room : length text < b → WriteSays i text (Wr.Refused Room) text
+    unfolding writeFit
+    write-no-room h =
+        let l = lt-leb (length whole) (length text) (omega (arith, bytes-are)) in
+        record { answer = rw (run-spelled i, e, l); bytes = rw (run-spelled i, e, l) }
 
-    pub write-done : b ≤ length text → (r : ℕ) (text′ : List ℕ) → Put text 0 whole r text′ → WriteSays threads slots thread kind sample schedule text (Wr.Bytes b) text′
-    unfolding writeAnswer
+    pub write-done : b ≤ length text → (r : ℕ) (text′ : List ℕ) → Put text 0 whole r text′ → WriteSays i text (Wr.Bytes b) text′
+    unfolding writeFit
     write-done h r text′ q =
-        let l : length whole ≤ length text = omega (arith, bytes-are) in
-        record { answer = rw (e, le-leb (length whole) (length text) l, ← bytes-are); bytes = q .text ∙ over-sets whole text l }
+        let h′ : length whole ≤ length text = omega (arith, bytes-are) in
+        let l = le-leb (length whole) (length text) h′ in
+        record { answer = rw (run-spelled i, e, l, ← bytes-are); bytes = rw (run-spelled i, e, l) (q .text ∙ over-sets whole text h′) }

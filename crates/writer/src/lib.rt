@@ -2,10 +2,11 @@
 ghost use mathlib.Core.Path.{_≡_};
 ghost use mathlib.Core.List.{[]};
 ghost use lib.ListN.{length};
+ghost use Rattle.limits.specs.Operations.{inputOf};
 ghost use Rattle.numerals.specs.Places.{Put};
-ghost use Rattle.runfile.specs.RunText.{pairLine, putLine, ended, opLine, opsText, stepsText, runText};
-ghost use Rattle.runfile.specs.Answers.{WriteSays};
 ghost use Rattle.runfile.specs.RunText.{Fitting};
+ghost use Rattle.runfile.specs.Spelling.{pairLine, putLine, ended, opLine, opsText, stepsText, spelled};
+ghost use Rattle.runfile.specs.Answers.{WriteSays};
 use limits::Fit;
 use limits::Refusal;
 use runfile::Written;
@@ -87,7 +88,7 @@ pub(crate) fn write_text(
     schedule: &[u8],
 ) -> usize
     requires { ⌜ (length (now kind) ≡ length (now thread)) × (length (now sample) ≡ length (now thread)) ⌝ }
-    ensures { λ r. ⌜ Put (now (out .entry)) 0 (runText threads slots (now (thread .entry)) (now (kind .entry)) (now (sample .entry)) (now (schedule .entry))) r (now (out .exit)) × Fitting (now (sample .entry)) ⌝ }
+    ensures { λ r. ⌜ Put (now (out .entry)) 0 (spelled threads slots (now (thread .entry)) (now (kind .entry)) (now (sample .entry)) (now (schedule .entry))) r (now (out .exit)) × Fitting (now (sample .entry)) ⌝ }
 {
     let a = write_pair(out, 0, b"threads", threads);
     let b = write_pair(out, a, b"slots", slots);
@@ -106,7 +107,7 @@ pub fn write_run(
     schedule: &[u8],
     text: &mut [u8],
 ) -> Written
-    ensures { λ r. ⌜ WriteSays threads slots (now (thread .entry)) (now (kind .entry)) (now (sample .entry)) (now (schedule .entry)) (now (text .entry)) r (now (text .exit)) ⌝ }
+    ensures { λ r. ⌜ WriteSays (inputOf threads slots (now (thread .entry)) (now (kind .entry)) (now (sample .entry)) (now (schedule .entry))) (now (text .entry)) r (now (text .exit)) ⌝ }
 {
     let fit = limits::check_input(threads, slots, thread, kind, sample, schedule);
     match fit {

@@ -1,11 +1,12 @@
 -- `answer::answer` meets its contract: the reader's lists have room for every run, so what it fills is what the text holds, and what it accepts
 -- the listing accepts too. Assumes nothing.
 use mathlib.Core.Path.{_≡_, sym, subst}
+use Prim.Native.Nat.{_≤_}
 use native.Mathlib.Omega.{arith}
 use lib.Seq.{length-take-le}
 use Rattle.runfile.specs.declared.Read.{Read}
 use Rattle.runfile.specs.declared.Read.the-variants.{Run, Refused}
-use Rattle.answer.proofs.AnswerLaws.{Held, text-held, ReadWhole, whole-answer, refused-says, run-says}
+use Rattle.answer.proofs.AnswerLaws.{ReadWhole, text-held, refused-says, run-says}
 use borrow.Author.Needs.{needs}
 use Rattle.answer.proofs.answer.Statement.{statement}
 use Rattle.answer.proofs.answer.Tie as tie
@@ -46,35 +47,35 @@ said : (z : tie.After-read-run) (r : Read) → z .read-run .result ≡ r
 said z r q =
     subst (λ (r : Read). ReadWhole (z .before .before .before .before .before .before .before .args .text .now) r (z .read-run .last .1 .0) (z .read-run .last .1 .1 .0) (z .read-run .last .1 .1 .1 .0) (z .read-run .last .1 .1 .1 .1 .0)) q (z .read-run .ensures)
 
--- what an accepted text holds
-held : (s : tie.After-read2) → Held (s .before .before .before .before .before .before .before .before .before .before .before .before .before .args .text .now) (s .read2 .given .0 .0) (s .read2 .given .0 .1 .0) (s .read2 .given .0 .1 .1 .0) (s .read2 .given .0 .1 .1 .1 .0)
+-- no more operations and schedule entries than a run has
+held : (s : tie.After-read2) → (s .read2 .given .0 .1 .1 .0 ≤ 128) × (s .read2 .given .0 .1 .1 .1 .0 ≤ 4096)
 held s =
     let g = s .read2 .given in
-    text-held (s .before .before .before .before .before .before .before .before .before .before .before .before .before .args .text .now) (g .0 .0) (g .0 .1 .0) (g .0 .1 .1 .0) (g .0 .1 .1 .1 .0) (whole-answer (said (s .before .before .before .before .before .before) (Run (g .0 .0) (g .0 .1 .0) (g .0 .1 .1 .0) (g .0 .1 .1 .1 .0)) (g .1)))
+    text-held (said (s .before .before .before .before .before .before) (Run (g .0 .0) (g .0 .1 .0) (g .0 .1 .1 .0) (g .0 .1 .1 .1 .0)) (g .1))
 
 array-share-prefix-thread : tie.Need-array-share-prefix-thread
-array-share-prefix-thread c = omega (arith, held (c .before) .few, c .before .before .before .before .before .before .before .read-run .kept .1 .0)
+array-share-prefix-thread c = omega (arith, held (c .before) .0, c .before .before .before .before .before .before .before .read-run .kept .1 .0)
 
 slice-aggregate-list-run : tie.Need-slice-aggregate-list-run
-slice-aggregate-list-run c = sym (length-take-le (c .before .before .read2 .given .0 .1 .1 .0) (c .before .before .before .before .before .before .before .before .read-run .last .1 .0) (omega (arith, held (c .before .before) .few, c .before .before .before .before .before .before .before .before .read-run .kept .1 .0)))
+slice-aggregate-list-run c = sym (length-take-le (c .before .before .read2 .given .0 .1 .1 .0) (c .before .before .before .before .before .before .before .before .read-run .last .1 .0) (omega (arith, held (c .before .before) .0, c .before .before .before .before .before .before .before .before .read-run .kept .1 .0)))
 
 array-share-prefix-kind : tie.Need-array-share-prefix-kind
-array-share-prefix-kind c = omega (arith, held (c .before .before) .few, c .before .before .before .before .before .before .before .before .read-run .kept .1 .1 .0)
+array-share-prefix-kind c = omega (arith, held (c .before .before) .0, c .before .before .before .before .before .before .before .before .read-run .kept .1 .1 .0)
 
 slice-aggregate-list-run-2 : tie.Need-slice-aggregate-list-run-2
-slice-aggregate-list-run-2 c = sym (length-take-le (c .before .before .before .read2 .given .0 .1 .1 .0) (c .before .before .before .before .before .before .before .before .before .read-run .last .1 .1 .0) (omega (arith, held (c .before .before .before) .few, c .before .before .before .before .before .before .before .before .before .read-run .kept .1 .1 .0)))
+slice-aggregate-list-run-2 c = sym (length-take-le (c .before .before .before .read2 .given .0 .1 .1 .0) (c .before .before .before .before .before .before .before .before .before .read-run .last .1 .1 .0) (omega (arith, held (c .before .before .before) .0, c .before .before .before .before .before .before .before .before .before .read-run .kept .1 .1 .0)))
 
 array-share-prefix-sample : tie.Need-array-share-prefix-sample
-array-share-prefix-sample c = omega (arith, held (c .before .before .before) .few, c .before .before .before .before .before .before .before .before .before .read-run .kept .1 .1 .1 .0)
+array-share-prefix-sample c = omega (arith, held (c .before .before .before) .0, c .before .before .before .before .before .before .before .before .before .read-run .kept .1 .1 .1 .0)
 
 slice-aggregate-list-run-3 : tie.Need-slice-aggregate-list-run-3
-slice-aggregate-list-run-3 c = sym (length-take-le (c .before .before .before .before .read2 .given .0 .1 .1 .0) (c .before .before .before .before .before .before .before .before .before .before .read-run .last .1 .1 .1 .0) (omega (arith, held (c .before .before .before .before) .few, c .before .before .before .before .before .before .before .before .before .before .read-run .kept .1 .1 .1 .0)))
+slice-aggregate-list-run-3 c = sym (length-take-le (c .before .before .before .before .read2 .given .0 .1 .1 .0) (c .before .before .before .before .before .before .before .before .before .before .read-run .last .1 .1 .1 .0) (omega (arith, held (c .before .before .before .before) .0, c .before .before .before .before .before .before .before .before .before .before .read-run .kept .1 .1 .1 .0)))
 
 array-share-prefix-schedule : tie.Need-array-share-prefix-schedule
-array-share-prefix-schedule c = omega (arith, held (c .before .before .before .before) .short, c .before .before .before .before .before .before .before .before .before .before .read-run .kept .1 .1 .1 .1 .0)
+array-share-prefix-schedule c = omega (arith, held (c .before .before .before .before) .1, c .before .before .before .before .before .before .before .before .before .before .read-run .kept .1 .1 .1 .1 .0)
 
 slice-aggregate-list-run-4 : tie.Need-slice-aggregate-list-run-4
-slice-aggregate-list-run-4 c = sym (length-take-le (c .before .before .before .before .before .read2 .given .0 .1 .1 .1 .0) (c .before .before .before .before .before .before .before .before .before .before .before .read-run .last .1 .1 .1 .1 .0) (omega (arith, held (c .before .before .before .before .before) .short, c .before .before .before .before .before .before .before .before .before .before .before .read-run .kept .1 .1 .1 .1 .0)))
+slice-aggregate-list-run-4 c = sym (length-take-le (c .before .before .before .before .before .read2 .given .0 .1 .1 .1 .0) (c .before .before .before .before .before .before .before .before .before .before .before .read-run .last .1 .1 .1 .1 .0) (omega (arith, held (c .before .before .before .before .before) .1, c .before .before .before .before .before .before .before .before .before .before .before .read-run .kept .1 .1 .1 .1 .0)))
 
 list-run-requires : tie.Need-list-run-requires
 list-run-requires c κs = search needs

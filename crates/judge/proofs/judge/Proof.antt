@@ -4,7 +4,8 @@ use mathlib.Core.Path.{_≡_, sym, _∙_}
 use mathlib.Core.Bool.{true, false}
 use borrow.Author.Tests.{le-leb, lt-leb}
 use Rattle.limits.specs.declared.Fit.the-variants.{Pass}
-use Rattle.limits.specs.Refusals.{within, tableRefusal}
+use Rattle.limits.specs.Refusals.{within}
+use Rattle.limits.specs.Parts.{tableRefusal}
 use Rattle.judge.proofs.RefusalLaws.{table-pass}
 use Rattle.judge.proofs.JudgedLaws.{judged-threads, judged-lengths, judged-table, judged-history}
 use Rattle.judge.proofs.judge.Statement.{statement}

@@ -10,8 +10,7 @@ use Rattle.history.specs.History.{events}
 use Rattle.linear.specs.Verdict.{verdict}
 use Rattle.judge.specs.declared.Judged.the-variants.{Says}
 use Rattle.judge.specs.Stand.{StandsAt}
-use Rattle.judge.specs.Judge.{orElse}
-use Rattle.judge.specs.Marks.{Marked}
+use Rattle.judge.specs.Marks.{Marked, orElse}
 use Rattle.judge.proofs.RefusalLaws.{event-stops, event-passes}
 use Rattle.judge.proofs.ConditionLaws.{found}
 use Rattle.judge.proofs.judge_history.Statement.{statement}

@@ -1,13 +1,11 @@
 -- `limits::check_schedule` meets its contract: one law of its chain of tests for each way out. Assumes nothing.
 use Prim.Native.Nat.{_≤_, _<_}
-use mathlib.Core.Path.{_≡_, sym, ap, _∙_}
-use native.Mathlib.Omega.{arith}
-use lib.ListN.{length}
+use mathlib.Core.Path.{sym, ap, _∙_}
 use Rattle.limits.specs.declared.Place.{Place}
-use Rattle.limits.specs.declared.Refusal.the-variants.{Operation, Entry}
+use Rattle.limits.specs.declared.Refusal.the-variants.{Entry}
 use Rattle.limits.specs.declared.Fit.the-variants.{Pass}
 use Rattle.limits.specs.Operations.{putsIn}
-use Rattle.limits.specs.Refusals.{unlessAt, scheduleRefusal, within, together}
+use Rattle.limits.specs.Refusals.{unlessAt}
 use Rattle.limits.proofs.LimitsLaws.{schedule-puts, schedule-long, schedule-by}
 use borrow.Author.Needs.{needs}
 use Rattle.limits.proofs.check_schedule.Statement.{statement}

@@ -1,11 +1,10 @@
 -- `limits::count_puts` meets its contract. The invariant: what is counted and what is left make the whole. Assumes nothing.
-use Prim.Native.Nat.{_+_, _≤_, _<_, _-_}
-use mathlib.Core.Path.{_≡_, refl}
+use Prim.Native.Nat.{_+_, _≤_, _-_}
+use mathlib.Core.Path.{_≡_}
 use mathlib.Core.Logic.{⊎-elim}
 use native.Mathlib.Omega.{arith}
 use borrow.Author.Needs.{needs}
-use borrow.Author.Tests.{eq-eqb, ne-eqb}
-use lib.ListN.{length, getD, drop, drop-of-length-le}
+use lib.ListN.{length, drop}
 use Rattle.limits.specs.Operations.{putsIn}
 use Rattle.limits.proofs.LimitsLaws.{puts-put, puts-other, puts-end}
 use Rattle.limits.proofs.count_puts.Statement.{statement}

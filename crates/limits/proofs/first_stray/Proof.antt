@@ -1,12 +1,12 @@
 -- `limits::first_stray` meets its contract. The invariant: the search from the place reached is the whole search. Assumes nothing.
-use Prim.Native.Nat.{_≤_, _<_, _-_}
-use mathlib.Core.Path.{_≡_, refl, sym, _∙_}
+use Prim.Native.Nat.{_≤_, _-_}
+use mathlib.Core.Path.{_≡_, sym, _∙_}
 use native.Mathlib.Omega.{arith}
 use borrow.Author.Needs.{needs}
 use borrow.Author.Tests.{le-leb, lt-leb}
 use lib.ListN.{length, getD}
 use Rattle.limits.specs.Lists.{lowestFrom}
-use Rattle.limits.specs.Refusals.{strayAt}
+use Rattle.limits.specs.Parts.{strayAt}
 use Rattle.limits.proofs.LimitsLaws.{lowest-here, lowest-on, lowest-end, lowest-whole}
 use Rattle.limits.proofs.first_stray.Statement.{statement}
 use Rattle.limits.proofs.first_stray.Tie as tie

@@ -1,5 +1,4 @@
 -- `limits::is_unfit` meets its contract: its four ways out are the rows of the test. Assumes nothing.
-use Prim.Native.Nat.{ℕ, _≤_, _<_}
 use mathlib.Core.Path.{_≡_}
 use native.Mathlib.Omega.{arith}
 use mir.Facts.{toZ-ofZ}

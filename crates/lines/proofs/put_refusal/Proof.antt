@@ -2,11 +2,11 @@
 use mathlib.Core.Path.{_≡_}
 use mathlib.Core.List.{[], _∷_}
 use native.Mathlib.Omega.{arith}
-use Rattle.limits.specs.Refusals.{refusalNumber, refusalDetail}
+use Rattle.limits.specs.Refusals.{refusalTold}
 use Rattle.numerals.proofs.PrintLaws.{put-as}
 use Rattle.numerals.specs.Decimal.{decimal}
-use Rattle.numerals.specs.Words.{bytes}
-use Rattle.lines.specs.Lines.{line, refusedLine}
+use Rattle.numerals.specs.Words.{bytes, line}
+use Rattle.lines.specs.Lines.{refusedLine}
 use Rattle.lines.proofs.PutLaws.{put-four}
 use Rattle.lines.proofs.LengthLaws.{refused-short}
 use borrow.Author.Needs.{needs}
@@ -47,8 +47,8 @@ returns : tie.Need-returns
 unfolding refusedLine
 returns c =
     let a = c .before .before .before .before .before .before .before .before .before .before .before .before .before .before .before .before .before .before .before .before .before .args in
-    let n : c .before .before .before .before .before .before .before .before .before .before .before .before .before .number .result ≡ refusalNumber (a .r) = c .before .before .before .before .before .before .before .before .before .before .before .before .before .number .ensures in
-    let d : c .before .before .before .detail .result ≡ refusalDetail (a .r) = c .before .before .before .detail .ensures in (
+    let n : c .before .before .before .before .before .before .before .before .before .before .before .before .before .number .result ≡ refusalTold (a .r) .0 = c .before .before .before .before .before .before .before .before .before .before .before .before .before .number .ensures in
+    let d : c .before .before .before .detail .result ≡ refusalTold (a .r) .1 = c .before .before .before .detail .ensures in (
       put-as (λ i. line (bytes "refused" ∷ decimal (n i) ∷ decimal (d i) ∷ [])) (put-four (omega arith) (c .before .before .before .before .before .before .before .before .before .before .before .before .before .before .before .before .before .put-word .ensures) (c .before .before .before .before .before .before .before .before .before .before .before .before .put-short .ensures) (c .before .before .before .before .before .before .before .put-word2 .ensures) (c .before .before .end-number .ensures)),
       refused-short (a .r) (omega (arith, c .before .before .before .before .before .before .before .before .before .before .before .before .before .number .ok)) (omega (arith, c .before .before .before .detail .ok)),
     )

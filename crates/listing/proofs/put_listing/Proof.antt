@@ -4,8 +4,8 @@ use mathlib.Core.List.{[], _∷_}
 use native.Mathlib.Omega.{arith}
 use lib.ListN.{length}
 use Rattle.numerals.specs.Decimal.{decimal}
-use Rattle.numerals.specs.Words.{bytes}
-use Rattle.lines.specs.Lines.{line, countLines}
+use Rattle.numerals.specs.Words.{bytes, line}
+use Rattle.lines.specs.Lines.{countLines}
 use Rattle.listing.specs.Twins.{upto, eventAt, orderAt, slotAt, threadAt, listingBy}
 use Rattle.lines.proofs.PutLaws.{put-six}
 use Rattle.lines.proofs.LengthLaws.{back-low}

@@ -1,37 +1,46 @@
 -- `pollenloom_run` meets its contract: it tells in numbers what the run says, and writes the records only of an accepted run. Assumes nothing.
-use mathlib.Core.Path.{_≡_}
-use Rattle.limits.specs.declared.Fit.the-variants.{Pass}
-use Rattle.run.specs.Run.{runFit, RunSays}
-use Rattle.outside.specs.Outside.{Lent, lentOf, roomIn}
-use Rattle.outside.proofs.OutsideLaws.{Rooms, rooms, passes-ran, tells-refused, tells-ran}
+use mathlib.Core.List.{List}
+use Prim.Native.Nat.{ℕ}
+use lib.IntN.{ℤ}
+use Rattle.limits.specs.Operations.{Input, inputOf}
+use Rattle.run.specs.Run.{Lists, listsOf}
+use Rattle.run.proofs.OnlyLaws.{Says}
+use Rattle.outside.proofs.OutsideLaws.{room, Rooms, rooms, tells-refused, tells-ran}
 use borrow.Author.Needs.{needs}
 use Rattle.outside.proofs.pollenloom_run.Statement.{statement}
 use Rattle.outside.proofs.pollenloom_run.Tie as tie
 
--- what the run said, with the room that there is
+-- what went in, what the run said, with the room that there is, and the five lists as it left them
 module _ (s : tie.After-run-core) where
-  abbrev lent : Lent
-  lent =
-      let a = s .before .before .before .before .before .before .before .before .before .before .before .before .before .before .before .args in
-      lentOf (a .codes .now) (a .values .now) (a .order .now) (a .marks .now) (a .held .now) (a .phases .now) (a .numbers .now) (a .ends .now)
+  abbrev start : tie.Start
+  start = s .before .before .before .before .before .before .before .before .before .before .before .before .before .before .before
 
-  says : RunSays (s .before .before .before .before .before .before .before .before .before .before .before .before .before .before .before .args .threads) (s .before .before .before .before .before .before .before .before .before .before .before .before .before .before .before .args .slots) (s .before .before .before .before .before .before .before .before .before .before .before .before .before .before .before .args .thread .now) (s .before .before .before .before .before .before .before .before .before .before .before .before .before .before .before .args .kind .now) (s .before .before .before .before .before .before .before .before .before .before .before .before .before .before .before .args .sample .now) (s .before .before .before .before .before .before .before .before .before .before .before .before .before .before .before .args .schedule .now) (roomIn lent .records)
-      (lent .codes) (lent .samples) (lent .order) (lent .marks) (lent .held)
-      (s .run-core .last .1 .1 .1 .1 .1 .1 .0) (s .run-core .last .1 .1 .1 .1 .1 .1 .1 .0) (s .run-core .last .1 .1 .1 .1 .1 .1 .1 .1 .0) (s .run-core .last .1 .1 .1 .1 .1 .1 .1 .1 .1 .0) (s .run-core .last .1 .1 .1 .1 .1 .1 .1 .1 .1 .1 .0) (s .run-core .result)
+  abbrev i : Input
+  i = let a = start .args in inputOf (a .threads) (a .slots) (a .thread .now) (a .kind .now) (a .sample .now) (a .schedule .now)
+
+  abbrev l : Lists
+  l = let a = start .args in listsOf (a .codes .now) (a .values .now) (a .order .now) (a .marks .now) (a .held .now)
+
+  abbrev ps : List ℕ
+  ps = start .args .phases .now
+
+  abbrev ns : List ℤ
+  ns = start .args .numbers .now
+
+  abbrev es : List ℕ
+  es = start .args .ends .now
+
+  abbrev m : Lists
+  m = let k = s .run-core .last .1 .1 .1 .1 .1 .1 in listsOf (k .0) (k .1 .0) (k .1 .1 .0) (k .1 .1 .1 .0) (k .1 .1 .1 .1 .0)
+
+  says : Says i l (room ps ns es) (record { final = s .run-core .result; lists = m })
   says = rw (s .before .before .before .before .before .before .shortest .ensures) at (s .run-core .ensures)
 
--- accepted
-module _ (k : tie.After-known-told2) where
-  passes : runFit (k .before .before .before .before .before .before .before .before .before .before .before .before .before .before .before .before .before .before .before .before .before .before .before .before .before .before .before .args .threads) (k .before .before .before .before .before .before .before .before .before .before .before .before .before .before .before .before .before .before .before .before .before .before .before .before .before .before .before .args .slots) (k .before .before .before .before .before .before .before .before .before .before .before .before .before .before .before .before .before .before .before .before .before .before .before .before .before .before .before .args .thread .now) (k .before .before .before .before .before .before .before .before .before .before .before .before .before .before .before .before .before .before .before .before .before .before .before .before .before .before .before .args .kind .now) (k .before .before .before .before .before .before .before .before .before .before .before .before .before .before .before .before .before .before .before .before .before .before .before .before .before .before .before .args .sample .now) (k .before .before .before .before .before .before .before .before .before .before .before .before .before .before .before .before .before .before .before .before .before .before .before .before .before .before .before .args .schedule .now) (roomIn (lent (k .before .before .before .before .before .before .before .before .before .before .before .before))) ≡ Pass
-  passes =
-      let s = k .before .before .before .before .before .before .before .before .before .before .before .before in
-      let a = s .before .before .before .before .before .before .before .before .before .before .before .before .before .before .before .args in
-      passes-ran (a .threads) (a .slots) (a .thread .now) (a .kind .now) (a .sample .now) (a .schedule .now) (lent s) _ _ _ _ _ (s .run-core .result) (says s) (k .before .outcome2 .given .0 .0) (k .before .outcome2 .given .1)
-
-  has-room : Rooms (k .before .before .before .before .before .before .before .before .before .before .before .before .before .before .before .before .before .before .before .before .before .before .before .before .before .before .before .args .threads) (k .before .before .before .before .before .before .before .before .before .before .before .before .before .before .before .before .before .before .before .before .before .before .before .before .before .before .before .args .slots) (k .before .before .before .before .before .before .before .before .before .before .before .before .before .before .before .before .before .before .before .before .before .before .before .before .before .before .before .args .thread .now) (k .before .before .before .before .before .before .before .before .before .before .before .before .before .before .before .before .before .before .before .before .before .before .before .before .before .before .before .args .kind .now) (k .before .before .before .before .before .before .before .before .before .before .before .before .before .before .before .before .before .before .before .before .before .before .before .before .before .before .before .args .sample .now) (k .before .before .before .before .before .before .before .before .before .before .before .before .before .before .before .before .before .before .before .before .before .before .before .before .before .before .before .args .schedule .now) (lent (k .before .before .before .before .before .before .before .before .before .before .before .before)) passes
-  has-room =
-      let a = k .before .before .before .before .before .before .before .before .before .before .before .before .before .before .before .before .before .before .before .before .before .before .before .before .before .before .before .args in
-      rooms (a .threads) (a .slots) (a .thread .now) (a .kind .now) (a .sample .now) (a .schedule .now) (lent (k .before .before .before .before .before .before .before .before .before .before .before .before)) passes
+-- accepted: the three record lists have room
+has-room : (k : tie.After-known-told2) → let s = k .before .before .before .before .before .before .before .before .before .before .before .before in Rooms (i s .threads) (ps s) (ns s) (es s)
+has-room k =
+    let s = k .before .before .before .before .before .before .before .before .before .before .before .before in
+    rooms (i s) (l s) (ps s) (ns s) (es s) (m s) (s .run-core .result) (says s) (k .before .outcome2 .given .0 .0) (k .before .outcome2 .given .1)
 
 shortest-requires : tie.Need-shortest-requires
 shortest-requires c κs = search needs
@@ -78,8 +87,7 @@ same-length-5 c = search needs
 returns : tie.Need-returns
 returns c =
     let s = c .before .before .before .before .before .before .before .before .before .before .before .before .before in
-    let a = s .before .before .before .before .before .before .before .before .before .before .before .before .before .before .before .args in
-    tells-refused (a .threads) (a .slots) (a .thread .now) (a .kind .now) (a .sample .now) (a .schedule .now) (lent s) _ _ _ _ _ (s .run-core .result) (says s) (c .before .before .outcome .given .0 .0) (c .before .before .outcome .given .1)
+    tells-refused (i s) (l s) (ps s) (ns s) (es s) (m s) (s .run-core .result) (says s) (c .before .before .outcome .given .0 .0) (c .before .before .outcome .given .1)
     (c .refuse .result) (c .refuse .ensures)
 
 same-length-6 : tie.Need-same-length-6
@@ -109,8 +117,7 @@ same-length-13 c = search needs
 returns-2 : tie.Need-returns-2
 returns-2 c =
     let s = c .before .before .before .before .before .before .before .before .before .before .before .before .before .before .before .before .before .before .before .before .before .before .before .before in
-    let a = s .before .before .before .before .before .before .before .before .before .before .before .before .before .before .before .args in
-    tells-ran (a .threads) (a .slots) (a .thread .now) (a .kind .now) (a .sample .now) (a .schedule .now) (lent s) _ _ _ _ _ (s .run-core .result) (says s) (c .before .before .before .before .before .before .before .before .before .before .before .before .before .outcome2 .given .0 .0) (c .before .before .before .before .before .before .before .before .before .before .before .before .before .outcome2 .given .1)
+    tells-ran (i s) (l s) (ps s) (ns s) (es s) (m s) (s .run-core .result) (says s) (c .before .before .before .before .before .before .before .before .before .before .before .before .before .outcome2 .given .0 .0) (c .before .before .before .before .before .before .before .before .before .before .before .before .before .outcome2 .given .1)
     (c .accept .result) _ _ _ (c .accept .ensures) (c .before .before .before .before .before .before .before .before .before .before .show-codes .ensures) (c .before .before .before .before .before .before .show-numbers .ensures) (c .before .before .before .show-ends .ensures)
 
 pub pollenloom-run-spec : {M : Type 1} → statement M

@@ -3,7 +3,7 @@ use mathlib.Core.Path.{_≡_, refl, subst}
 use Prim.Native.Nat.{_-_}
 use Rattle.reader.specs.declared.Pair.{Pair}
 use Rattle.reader.specs.declared.Pair.the-variants as P
-use Rattle.runfile.specs.RunText.{threadsWord, slotsWord}
+use Rattle.runfile.specs.Spelling.{threadsWord, slotsWord}
 use Rattle.reader.specs.Twins.{LineSays}
 use Rattle.reader.proofs.LineLaws.{head-first, head-second, head-at}
 use borrow.Author.Needs.{needs}

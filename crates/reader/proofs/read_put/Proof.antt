@@ -12,7 +12,7 @@ use Rattle.numerals.specs.Reading.{numberOf, sampleOf}
 use Rattle.runfile.specs.declared.Operation.the-variants as O
 use Rattle.reader.specs.declared.Field.{Field}
 use Rattle.reader.specs.declared.Field.the-variants as F
-use Rattle.runfile.specs.RunText.{putWord}
+use Rattle.runfile.specs.Spelling.{putWord}
 use Rattle.runfile.specs.Reading.{parts, putOf}
 use Rattle.reader.specs.Twins.{PassSays, putIn}
 use Rattle.reader.proofs.WordLaws.{put-none, put-one, put-two, pair-inside, sample-exact}

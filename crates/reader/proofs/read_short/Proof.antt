@@ -1,5 +1,5 @@
 -- `reader::read_short` meets its contract: the bytes that it tests are those of the line of a step of one or two digits. Assumes nothing.
-use mathlib.Core.Path.{_≡_, refl}
+use mathlib.Core.Path.{refl}
 use Prim.Native.Nat.{_+_}
 use borrow.Author.Tests.{not-false}
 use Rattle.reader.proofs.ShortLaws.{short-one, short-two}

@@ -1,6 +1,5 @@
 -- `reader::read_step` meets its contract: the short way where it serves, and otherwise the reading of any line. Assumes nothing.
-use mathlib.Core.Path.{_≡_, subst}
-use Rattle.reader.specs.declared.Pair.{Pair}
+use mathlib.Core.Path.{subst}
 use Rattle.reader.specs.Twins.{ShortSays}
 use borrow.Author.Needs.{needs}
 use Rattle.reader.proofs.read_step.Statement.{statement}

@@ -6,7 +6,7 @@ use native.Mathlib.Omega.{arith}
 use lib.ListN.{length}
 use Rattle.reader.specs.declared.Pair.{Pair}
 use Rattle.reader.specs.declared.Pair.the-variants as P
-use Rattle.runfile.specs.RunText.{stepWord}
+use Rattle.runfile.specs.Spelling.{stepWord}
 use Rattle.reader.specs.Twins.{LineSays}
 use Rattle.reader.proofs.LineLaws.{Left, left-start, left-bad, left-next, left-end}
 use borrow.Author.Needs.{needs}

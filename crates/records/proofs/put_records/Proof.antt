@@ -51,7 +51,7 @@ use denote.Triple.Walked.{says, needs, Stays, stay-slice, stay-none, walkOf, goe
 use denote.Exit.{yes}
 use Rattle.machine.specs.declared.ThreadRecord.{ThreadRecord}
 use Rattle.run.specs.declared.Final.{Final}
-use Rattle.run.specs.Run.{restRecord}
+use Rattle.run.specs.Core.{restRecord}
 use Rattle.run.proofs.Final as F
 use Rattle.run.proofs.Final.Laws as F′
 use Rattle.machine.proofs.ThreadRecord as T

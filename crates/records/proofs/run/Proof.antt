@@ -43,7 +43,9 @@ use denote.Exit.{yes}
 use Rattle.machine.specs.declared.ThreadRecord.{ThreadRecord}
 use Rattle.run.specs.declared.Final.{Final}
 use Rattle.run.specs.declared.Outcome.{Outcome}
-use Rattle.run.specs.Run.{RunSays}
+use Rattle.limits.specs.Operations.{Input, inputOf}
+use Rattle.run.specs.Run.{Lists, listsOf}
+use Rattle.run.specs.Core.{RunSays}
 use Rattle.records.specs.Records.{RecordsSay}
 use Rattle.records.specs.Twins.{countOf}
 use Rattle.records.proofs.SayLaws.{count-fits, records-say}
@@ -165,6 +167,12 @@ module _ {M : Type 1} (𝓤 : URA M) (H : Heap 𝓤) (A : Atoms 𝓤) (W : Given
   abbrev v-records : Val
   v-records = sliceVal (b-records, o-records) (length records)
 
+  abbrev input : Input
+  input = inputOf threads slots thread kind sample schedule
+
+  abbrev lists : Lists
+  lists = listsOf codes values order marks held
+
   abbrev Post : Val → SProp 𝓤
   Post = walkOf 𝓤 H A f.ended stayed (f.clauses 𝓤 H A mem run) .post (((κ, tt), (q, tt), tt, (threads, (slots, (x-thread, (x-kind, (x-sample, (x-schedule, (x-codes, (x-values, (x-order, (x-marks, (x-held, (x-records, tt)))))))))))), (vint w64 threads ∷ [], (vint w64 slots ∷ [], (v-thread ∷ [], (v-kind ∷ [], (v-sample ∷ [], (v-schedule ∷ [], (v-codes ∷ [], (v-values ∷ [], (v-order ∷ [], (v-marks ∷ [], (v-held ∷ [], (v-records ∷ [], tt))))))))))))), tt)
 
@@ -209,7 +217,7 @@ module _ {M : Type 1} (𝓤 : URA M) (H : Heap 𝓤) (A : Atoms 𝓤) (W : Given
   was-told fin r = exE 𝓤 _ (λ ws. snd∗ 𝓤 (sem 𝓤 H A (lasts told.ended tt (fin, tt) ws)) (fact 𝓤 (r ≡ fin .outcome)))
 
   -- what the contract asks at the end
-  exits : (r : Outcome) (v : Val) (codes′ : List ℕ) (values′ : List ℤ) (order′ : List ℕ) (marks′ : List ℕ) (held′ : List ℤ) (records′ : List ThreadRecord) → RecordsSay threads slots thread kind sample schedule codes values order marks held records codes′ values′ order′ marks′ held′ records′ r
+  exits : (r : Outcome) (v : Val) (codes′ : List ℕ) (values′ : List ℤ) (order′ : List ℕ) (marks′ : List ℕ) (held′ : List ℤ) (records′ : List ThreadRecord) → RecordsSay input lists (listsOf codes′ values′ order′ marks′ held′) records records′ r
       → length codes′ ≡ length codes → length values′ ≡ length values → length order′ ≡ length order → length marks′ ≡ length marks → length held′ ≡ length held → length records′ ≡ length records
       → ent 𝓤 (⋆ 𝓤 H A ((‵ (flft κ q) ⊛ ‵ ftrue) ∷ ‵ (ShrSlice (named 0) κ u8 .own x-thread (v-thread ∷ [])) ∷ ‵ (ShrSlice (named 0) κ u8 .own x-kind (v-kind ∷ [])) ∷ ‵ (ShrSlice (named 0) κ i32 .own x-sample (v-sample ∷ [])) ∷ ‵ (ShrSlice (named 0) κ u8 .own x-schedule (v-schedule ∷ [])) ∷ ‵ (finally u16 γ-codes codes′) ∷ ‵ (finally i32 γ-values values′) ∷ ‵ (finally u8 γ-order order′) ∷ ‵ (finally u8 γ-marks marks′) ∷ ‵ (finally i32 γ-held held′) ∷ ‵ (finally T.the-row γ-records records′) ∷ ‵ (O.the-row .own r (v ∷ [])) ∷ [])) (Post v)
   exits r v codes′ values′ order′ marks′ held′ records′ says′ e-codes e-values e-order e-marks e-held e-records =
@@ -260,7 +268,7 @@ module _ {M : Type 1} (𝓤 : URA M) (H : Heap 𝓤) (A : Atoms 𝓤) (W : Given
         land ! (from ! (stop !)) (init ! 39 refl (uint-lawful 𝓤 H A W w64 .typed n _ isn .0)) $
         assigns ! (addr ! (from ! (fld ! refl (hop ! (look-in ! 43 (sub ! 0 refl (whole !))) (stop !))))) (from ! (stop !)) (init ! 13 refl (tt, tt)) $
         assigns ! (agg ! (and-then ! (load ! (from ! (stop !)) (look ! 13 refl)) (and-then ! (load ! (from ! (fld ! refl (stop !))) (look-in ! 43 (sub ! 1 refl (whole !)))) (no-more !)))) (from ! (stop !)) (init ! 11 refl (tt, (tt, (record { fits = g-records .0 }, tt)))) $
-        move ! (0 ∷ 6 ∷ []) $ group ! 2 $ use1 W (raw (Put 𝓤 H A mem run .pre (to-put fin v n u))) (goes-put fin v n u is isn (count-fits threads slots thread kind sample schedule codes values order marks held records (ws .1 .1 .1 .1 .1 .1 .0) (ws .1 .1 .1 .1 .1 .1 .1 .0) (ws .1 .1 .1 .1 .1 .1 .1 .1 .0) (ws .1 .1 .1 .1 .1 .1 .1 .1 .1 .0) (ws .1 .1 .1 .1 .1 .1 .1 .1 .1 .1 .0) fin e n en)) $
+        move ! (0 ∷ 6 ∷ []) $ group ! 2 $ use1 W (raw (Put 𝓤 H A mem run .pre (to-put fin v n u))) (goes-put fin v n u is isn (count-fits input lists records (listsOf (ws .1 .1 .1 .1 .1 .1 .0) (ws .1 .1 .1 .1 .1 .1 .1 .0) (ws .1 .1 .1 .1 .1 .1 .1 .1 .0) (ws .1 .1 .1 .1 .1 .1 .1 .1 .1 .0) (ws .1 .1 .1 .1 .1 .1 .1 .1 .1 .1 .0)) fin e n en)) $
         calls-at ! fm (Put 𝓤 H A mem run) k-put (to-put fin v n u) (and-then ! (load ! (from ! (stop !)) (look ! 10 refl)) (and-then ! (load ! (from ! (stop !)) (look ! 40 refl)) (and-then ! (load ! (from ! (stop !)) (look ! 38 refl)) (no-more !)))) (λ z.
         use1 W (later (some (λ (k : Unit {0}). ((‵ (flft κ q) ⊛ ‵ ftrue) ⊛ ‵ (Nothing .own k (z ∷ []))) ⊛ raw (ensured 𝓤 H A put.ended (put.clauses 𝓤 H A mem run) (κ, tt) (x-records, (fin, (n, tt))) tt k)))) (id⊢ 𝓤 _) $ await ! tt $ pick′ ! (λ k.
         split ! $ move ! (1 ∷ []) $ use1 W (some (λ (ys : Lasts put.ended (κ, tt) (x-records, (fin, (n, tt)))). ‵ (lasts put.ended (κ, tt) (x-records, (fin, (n, tt))) ys) ⊛ raw (fact 𝓤 (ys .0 ≡ take n (fin .records) ++ drop n records)))) (id⊢ 𝓤 _) $ pick′ ! (λ ys.
@@ -277,7 +285,7 @@ module _ {M : Type 1} (𝓤 : URA M) (H : Heap 𝓤) (A : Atoms 𝓤) (W : Given
         returns ! (look ! 68 refl) $ forget ! 68 refl $ forget ! 66 refl $ forget ! 64 refl $ forget ! 62 refl $ forget ! 60 refl $ forget ! 58 refl $ forget ! 56 refl $ forget ! 54 refl $ forget ! 52 refl $ forget ! 50 refl $ forget ! 48 refl $ forget ! 46 refl $ forget ! 44 refl $ forget ! 42 refl $ forget ! 40 refl $ forget ! 38 refl $ forget ! 36 refl $ forget ! 34 refl $ forget ! 32 refl $ forget ! 30 refl $ forget ! 28 refl $ forget ! 26 refl $ forget ! 24 refl $ forget ! 22 refl $ forget ! 20 refl $ forget ! 18 refl $ forget ! 16 refl $ forget ! 14 refl $ forget ! 12 refl $
         move ! (68 ∷ 69 ∷ []) $ free1 ! $ move ! (66 ∷ 67 ∷ []) $ free1 ! $ move ! (64 ∷ 65 ∷ []) $ free1 ! $ move ! (62 ∷ 63 ∷ []) $ free1 ! $ move ! (60 ∷ 61 ∷ []) $ free1 ! $ move ! (58 ∷ 59 ∷ []) $ free1 ! $ move ! (56 ∷ 57 ∷ []) $ free1 ! $ move ! (54 ∷ 55 ∷ []) $ free1 ! $ move ! (52 ∷ 53 ∷ []) $ free1 ! $ move ! (50 ∷ 51 ∷ []) $ free1 ! $ move ! (48 ∷ 49 ∷ []) $ free1 ! $ move ! (46 ∷ 47 ∷ []) $ free1 ! $ move ! (44 ∷ 45 ∷ []) $ free1 ! $ move ! (42 ∷ 43 ∷ []) $ free1 ! $ move ! (40 ∷ 41 ∷ []) $ free1 ! $ move ! (38 ∷ 39 ∷ []) $ free1 ! $ move ! (36 ∷ 37 ∷ []) $ free1 ! $ move ! (34 ∷ 35 ∷ []) $ free1 ! $ move ! (32 ∷ 33 ∷ []) $ free1 ! $ move ! (30 ∷ 31 ∷ []) $ free1 ! $ move ! (28 ∷ 29 ∷ []) $ free1 ! $ move ! (26 ∷ 27 ∷ []) $ free1 ! $ move ! (24 ∷ 25 ∷ []) $ free1 ! $ move ! (22 ∷ 23 ∷ []) $ free1 ! $ move ! (20 ∷ 21 ∷ []) $ free1 ! $ move ! (18 ∷ 19 ∷ []) $ free1 ! $ move ! (16 ∷ 17 ∷ []) $ free1 ! $ move ! (14 ∷ 15 ∷ []) $ free1 ! $ move ! (12 ∷ 13 ∷ []) $ free1 ! $ free0 ! $
         keep ! (1 ∷ 11 ∷ 10 ∷ 9 ∷ 8 ∷ 7 ∷ 6 ∷ 5 ∷ 4 ∷ 3 ∷ 2 ∷ 0 ∷ []) $ by ! (exits r w (ws .1 .1 .1 .1 .1 .1 .0) (ws .1 .1 .1 .1 .1 .1 .1 .0) (ws .1 .1 .1 .1 .1 .1 .1 .1 .0) (ws .1 .1 .1 .1 .1 .1 .1 .1 .1 .0) (ws .1 .1 .1 .1 .1 .1 .1 .1 .1 .1 .0) (ys .0)
-        (records-say threads slots thread kind sample schedule codes values order marks held records (ws .1 .1 .1 .1 .1 .1 .0) (ws .1 .1 .1 .1 .1 .1 .1 .0) (ws .1 .1 .1 .1 .1 .1 .1 .1 .0) (ws .1 .1 .1 .1 .1 .1 .1 .1 .1 .0) (ws .1 .1 .1 .1 .1 .1 .1 .1 .1 .1 .0) fin e n en (ys .0) ep r er)
+        (records-say input lists records (listsOf (ws .1 .1 .1 .1 .1 .1 .0) (ws .1 .1 .1 .1 .1 .1 .1 .0) (ws .1 .1 .1 .1 .1 .1 .1 .1 .0) (ws .1 .1 .1 .1 .1 .1 .1 .1 .1 .0) (ws .1 .1 .1 .1 .1 .1 .1 .1 .1 .1 .0)) fin e n en (ys .0) ep r er)
         e-codes e-values e-order e-marks e-held e-records))))))))))))))))))))))))))))))))))))))))))))))))))))))
 
 module _ {M : Type 1} (𝓤 : URA M) (H : Heap 𝓤) (A : Atoms 𝓤) (W : Given 𝓤 H A) (mem : Memory → SProp 𝓤) (run : Routine → Fun 𝓤) where

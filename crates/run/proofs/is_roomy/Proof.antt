@@ -1,5 +1,5 @@
 -- `is_roomy` meets its contract: its four tests in turn. Assumes nothing.
-use borrow.Author.Tests.{lt-leb, le-leb, eq-eqb, ne-eqb}
+use borrow.Author.Tests.{lt-leb, le-leb}
 use Rattle.run.proofs.is_roomy.Statement.{statement}
 use Rattle.run.proofs.is_roomy.Tie as tie
 use Rattle.run.proofs.is_roomy.Reads as reads

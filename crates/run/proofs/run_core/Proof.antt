@@ -1,6 +1,6 @@
 -- `run_core` meets its contract: refused, nothing changed; played, the bench after the schedule is shown. Assumes nothing.
-use mathlib.Core.Path.{_≡_, refl, sym, ap, _∙_}
-use Prim.Native.Nat.{ℕ, _+_, _-_, _≤_, _<_, _^_}
+use mathlib.Core.Path.{_≡_, sym, _∙_}
+use Prim.Native.Nat.{_-_}
 use lib.ListN.{length, replicate}
 use Rattle.stepping.specs.Twins.{playFit}
 use Rattle.run.specs.FinalTwin.{restRoom}

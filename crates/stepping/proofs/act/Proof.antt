@@ -1,5 +1,5 @@
 -- `act` meets its contract: each arm is the twin's clause, by what the arm's function ensures. Assumes nothing.
-use mathlib.Core.Path.{_≡_, refl, sym, ap, _∙_}
+use mathlib.Core.Path.{refl, ap, _∙_}
 use Prim.Native.Nat.{_<_, _^_}
 use lib.IntN.{ℤ}
 use lib.ListN.{set}

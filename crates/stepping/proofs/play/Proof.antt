@@ -1,6 +1,7 @@
 -- `play` meets its contract: by what the tests of the input say. Assumes nothing.
-use mathlib.Core.Path.{_≡_, refl, sym, ap, _∙_}
+use mathlib.Core.Path.{_≡_, sym, ap, _∙_}
 use Rattle.limits.specs.declared.Fit.the-variants.{Pass}
+use Rattle.limits.specs.Operations.{inputOf}
 use Rattle.limits.specs.Refusals.{inputRefusal}
 use Rattle.stepping.specs.declared.State.{State}
 use Rattle.stepping.specs.Twins.{worldOf}
@@ -29,7 +30,7 @@ enum-told c = search needs
 play-fit-requires : tie.Need-play-fit-requires
 play-fit-requires c κs =
     let a = c .before .before .before .before .before .before .before .before .before .before .before .args in
-    let e : inputRefusal (a .threads) (a .slots) (a .thread .now) (a .kind .now) (a .sample .now) (a .schedule .now) ≡ Pass = sym (c .before .before .before .before .before .before .check-input .ensures) ∙ c .before .before .before .before .enum-told .given .1 in
+    let e : inputRefusal (inputOf (a .threads) (a .slots) (a .thread .now) (a .kind .now) (a .sample .now) (a .schedule .now)) ≡ Pass = sym (c .before .before .before .before .before .before .check-input .ensures) ∙ c .before .before .before .before .enum-told .given .1 in
     playable (a .threads) (a .slots) (a .thread .now) (a .kind .now) (a .sample .now) (a .schedule .now) (a .roomy) (a .codes .now) (a .values .now) (a .takes .now) (a .puts .now) e
 
 returns : tie.Need-returns
@@ -48,7 +49,7 @@ same-length-2 c = search needs
 returns-2 : tie.Need-returns-2
 returns-2 c =
     let a = c .before .before .before .before .before .before .before .before .before .before .before .before .before .before .before .args in
-    let e : inputRefusal (a .threads) (a .slots) (a .thread .now) (a .kind .now) (a .sample .now) (a .schedule .now) ≡ Pass = sym (c .before .before .before .before .before .before .before .before .before .before .check-input .ensures) ∙ c .before .before .before .before .before .before .before .before .enum-told .given .1 in
+    let e : inputRefusal (inputOf (a .threads) (a .slots) (a .thread .now) (a .kind .now) (a .sample .now) (a .schedule .now)) ≡ Pass = sym (c .before .before .before .before .before .before .before .before .before .before .check-input .ensures) ∙ c .before .before .before .before .before .before .before .before .enum-told .given .1 in
     (c .before .before .before .play-fit .ensures .0 ∙ passed-fit (a .threads) (a .slots) (a .thread .now) (a .kind .now) (a .sample .now) (a .schedule .now) (a .roomy) (a .codes .now) (a .values .now) (a .takes .now) (a .puts .now) e, c .before .before .before .play-fit .ensures .1 ∙ passed-world (a .threads) (a .slots) (a .thread .now) (a .kind .now) (a .sample .now) (a .schedule .now) (a .roomy) (a .codes .now) (a .values .now) (a .takes .now) (a .puts .now) e)
 
 pub play-spec : {M : Type 1} → statement M

@@ -1,9 +1,9 @@
 -- `run_all` meets its contract. The invariant: what is left of the schedule, played from here, is the whole run. Assumes nothing.
 use mathlib.Core.Path.{_≡_, refl, sym, ap, _∙_, subst}
-use Prim.Native.Nat.{ℕ, _+_, _-_, _≤_, _<_}
+use Prim.Native.Nat.{_+_, _-_, _≤_}
 use native.Mathlib.Omega.{arith}
 use lib.ListN.{length, getD, drop}
-use Rattle.stepping.specs.Twins.{Within, World, coreIn, worldOf, stepWorld, runWorld}
+use Rattle.stepping.specs.Twins.{Within, World, coreIn, worldOf, runWorld}
 use Rattle.stepping.proofs.TwinLaws.{run-step, run-end, step-within, within-le}
 use borrow.Author.Needs.{needs}
 use borrow.Author.Needs.{needs}

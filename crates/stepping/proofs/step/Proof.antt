@@ -1,5 +1,5 @@
 -- `step` meets its contract: the thread's turn, put back into the state. Assumes nothing.
-use mathlib.Core.Path.{_≡_, refl, sym, ap, _∙_}
+use mathlib.Core.Path.{ap}
 use Rattle.stepping.specs.Twins.{turned, stepWorld}
 use borrow.Author.Needs.{needs}
 use Rattle.stepping.proofs.step.Statement.{statement}

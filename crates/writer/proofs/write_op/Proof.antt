@@ -7,7 +7,7 @@ use mir.Syntax.{w32}
 use mir.ValLaws.{toZ-ofZ}
 use borrow.Author.Tests.{eq-eqb, ne-eqb}
 use Rattle.numerals.proofs.PrintLaws.{put-as}
-use Rattle.runfile.specs.RunText.{putLine, ended}
+use Rattle.runfile.specs.Spelling.{putLine, ended}
 use borrow.Author.Needs.{needs}
 use Rattle.writer.proofs.write_op.Statement.{statement}
 use Rattle.writer.proofs.write_op.Tie as tie

@@ -10,7 +10,7 @@ use mir.Syntax.{w32}
 use mir.Val.{SFits, toZ, ofZ}
 use mir.ValLaws.{toZ-ofZ}
 use Rattle.numerals.proofs.PrintLaws.{put-as}
-use Rattle.runfile.specs.RunText.{opLine, ended, opsText}
+use Rattle.runfile.specs.Spelling.{opLine, ended, opsText}
 use Rattle.writer.proofs.WriteLaws.{fit-next, Lines, lines-start, lines-next, lines-end, ops-left, no-ops-left}
 use borrow.Author.Needs.{needs}
 use Rattle.writer.proofs.write_ops.Statement.{statement}

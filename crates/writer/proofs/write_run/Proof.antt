@@ -2,8 +2,9 @@
 -- Assumes nothing.
 use mathlib.Core.Path.{_≡_, sym, _∙_}
 use Rattle.limits.specs.declared.Fit.the-variants.{Pass}
+use Rattle.limits.specs.Operations.{inputOf}
 use Rattle.limits.specs.Refusals.{inputRefusal}
-use Rattle.runfile.proofs.InputLaws.{Passed, passed}
+use Rattle.limits.proofs.PassLaws.{Passed, input-passed}
 use Rattle.writer.proofs.WriteLaws.{write-refused, write-no-room, write-done}
 use borrow.Author.Needs.{needs}
 use Rattle.writer.proofs.write_run.Statement.{statement}
@@ -11,11 +12,11 @@ use Rattle.writer.proofs.write_run.Tie as tie
 
 -- where the input has passed
 module _ (s : tie.After-enum-told) where
-  fine : inputRefusal (s .before .before .before .before .before .before .before .args .threads) (s .before .before .before .before .before .before .before .args .slots) (s .before .before .before .before .before .before .before .args .thread .now) (s .before .before .before .before .before .before .before .args .kind .now) (s .before .before .before .before .before .before .before .args .sample .now) (s .before .before .before .before .before .before .before .args .schedule .now) ≡ Pass
+  fine : inputRefusal (inputOf (s .before .before .before .before .before .before .before .args .threads) (s .before .before .before .before .before .before .before .args .slots) (s .before .before .before .before .before .before .before .args .thread .now) (s .before .before .before .before .before .before .before .args .kind .now) (s .before .before .before .before .before .before .before .args .sample .now) (s .before .before .before .before .before .before .before .args .schedule .now)) ≡ Pass
   fine = sym (s .before .before .check-input .ensures) ∙ s .enum-told .given .1
 
-  all : Passed (s .before .before .before .before .before .before .before .args .threads) (s .before .before .before .before .before .before .before .args .slots) (s .before .before .before .before .before .before .before .args .thread .now) (s .before .before .before .before .before .before .before .args .kind .now) (s .before .before .before .before .before .before .before .args .sample .now) (s .before .before .before .before .before .before .before .args .schedule .now)
-  all = passed (s .before .before .before .before .before .before .before .args .threads) (s .before .before .before .before .before .before .before .args .slots) (s .before .before .before .before .before .before .before .args .thread .now) (s .before .before .before .before .before .before .before .args .kind .now) (s .before .before .before .before .before .before .before .args .sample .now) (s .before .before .before .before .before .before .before .args .schedule .now) fine
+  all : Passed (inputOf (s .before .before .before .before .before .before .before .args .threads) (s .before .before .before .before .before .before .before .args .slots) (s .before .before .before .before .before .before .before .args .thread .now) (s .before .before .before .before .before .before .before .args .kind .now) (s .before .before .before .before .before .before .before .args .sample .now) (s .before .before .before .before .before .before .before .args .schedule .now))
+  all = input-passed _ fine
 
 check-input-requires : tie.Need-check-input-requires
 check-input-requires c κs = search needs

@@ -4,7 +4,7 @@ use mathlib.Core.Path.{_≡_, refl, _∙_}
 use Prim.Native.Nat.{_≤_, _-_, _+_}
 use native.Mathlib.Omega.{arith}
 use lib.ListN.{length, getD, drop}
-use Rattle.runfile.specs.RunText.{stepWord, pairLine, stepsText}
+use Rattle.runfile.specs.Spelling.{stepWord, pairLine, stepsText}
 use Rattle.writer.proofs.WriteLaws.{Lines, lines-start, lines-next, lines-end, steps-left, no-steps-left}
 use borrow.Author.Needs.{needs}
 use Rattle.writer.proofs.write_steps.Statement.{statement}

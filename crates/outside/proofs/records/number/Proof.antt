@@ -1,13 +1,18 @@
--- `number` meets its contract: each arm is the clause of `phaseNumber`, and a slot is far below 2 ^ 31. Assumes nothing.
+-- `number` meets its contract: each arm is the number in the clause of `phaseTold`, and a slot is far below 2 ^ 31. Assumes nothing.
 use mathlib.Core.Path.{sym, ap, _∙_}
 use Prim.Native.Nat.{_<_, _^_}
-use lib.IntN.{pos}
+use lib.IntN.{ℤ, pos}
 use lib.Signed.{mag}
-use Rattle.machine.specs.Shown.{phaseNumber}
+use Rattle.machine.specs.declared.Phase.{Phase}
+use Rattle.machine.specs.Shown.{phaseTold}
 use Rattle.limits.proofs.LimitsLaws.{back32}
 use borrow.Author.Needs.{needs}
 use Rattle.outside.proofs.records.number.Statement.{statement}
 use Rattle.outside.proofs.records.number.Tie as tie
+
+-- the number that a phase shows
+abbrev number : Phase → ℤ
+number p = phaseTold p .1
 
 enum-told : tie.Need-enum-told
 enum-told c = search needs
@@ -37,28 +42,28 @@ enum-known-p-3 : tie.Need-enum-known-p-3
 enum-known-p-3 c = search needs
 
 returns : tie.Need-returns
-returns c = ap phaseNumber (sym (c .enum-told .given .1))
+returns c = ap number (sym (c .enum-told .given .1))
 
 returns-2 : tie.Need-returns-2
-returns-2 c = ap phaseNumber (sym (c .enum-told2 .given .1))
+returns-2 c = ap number (sym (c .enum-told2 .given .1))
 
 returns-3 : tie.Need-returns-3
-returns-3 c = back32 (pos (c .before .p .given .0 .0)) (search needs) ∙ ap phaseNumber (sym (c .before .p .given .1))
+returns-3 c = back32 (pos (c .before .p .given .0 .0)) (search needs) ∙ ap number (sym (c .before .p .given .1))
 
 returns-4 : tie.Need-returns-4
-returns-4 c = ap phaseNumber (sym (c .enum-told3 .given .1))
+returns-4 c = ap number (sym (c .enum-told3 .given .1))
 
 returns-5 : tie.Need-returns-5
-returns-5 c = ap phaseNumber (sym (c .enum-told4 .given .1))
+returns-5 c = ap number (sym (c .enum-told4 .given .1))
 
 returns-6 : tie.Need-returns-6
-returns-6 c = back32 (pos (c .before .p2 .given .0 .0)) (search needs) ∙ ap phaseNumber (sym (c .before .p2 .given .1))
+returns-6 c = back32 (pos (c .before .p2 .given .0 .0)) (search needs) ∙ ap number (sym (c .before .p2 .given .1))
 
 returns-7 : tie.Need-returns-7
 returns-7 c =
     let x = c .before .p3 .given .0 .0 in
     let k : mag x < 2 ^ 31 = search needs in
-    back32 x k ∙ ap phaseNumber (sym (c .before .p3 .given .1))
+    back32 x k ∙ ap number (sym (c .before .p3 .given .1))
 
 pub number-spec : {M : Type 1} → statement M
 number-spec =

@@ -1,7 +1,7 @@
 -- `pollenloom_list` meets its contract: the answer of the listing, in numbers. Assumes nothing.
 use mathlib.Core.Path.{sym, ap}
-use Rattle.outside.specs.Texts.{listNumbers}
-use Rattle.outside.proofs.TextLaws.{tells-listed}
+use Rattle.limits.specs.Operations.{inputOf}
+use Rattle.outside.proofs.TextLaws.{listedNumbers, tells-listed}
 use borrow.Author.Needs.{needs}
 use Rattle.outside.proofs.texts.pollenloom_list.Statement.{statement}
 use Rattle.outside.proofs.texts.pollenloom_list.Tie as tie
@@ -28,7 +28,7 @@ returns : tie.Need-returns
 returns c =
     let q = c .before .before .before .before .before .list-run in
     let a = c .before .before .before .before .before .before .before .before .before .before .before .args in
-    tells-listed (a .threads) (a .slots) (a .thread .now) (a .kind .now) (a .sample .now) (a .schedule .now) (a .text .now) _ (q .result) _ (q .ensures) (ap listNumbers (sym (c .before .listed .given .1)))
+    tells-listed (inputOf (a .threads) (a .slots) (a .thread .now) (a .kind .now) (a .sample .now) (a .schedule .now)) (a .text .now) _ (q .result) _ (q .ensures) (ap listedNumbers (sym (c .before .listed .given .1)))
 
 same-length-2 : tie.Need-same-length-2
 same-length-2 c = search needs
@@ -37,7 +37,7 @@ returns-2 : tie.Need-returns-2
 returns-2 c =
     let q = c .before .before .before .before .before .before .before .list-run in
     let a = c .before .before .before .before .before .before .before .before .before .before .before .before .before .args in
-    tells-listed (a .threads) (a .slots) (a .thread .now) (a .kind .now) (a .sample .now) (a .schedule .now) (a .text .now) _ (q .result) _ (q .ensures) (rw (c .before .number .ensures, c .detail .ensures) (ap listNumbers (sym (c .before .before .before .listed2 .given .1))))
+    tells-listed (inputOf (a .threads) (a .slots) (a .thread .now) (a .kind .now) (a .sample .now) (a .schedule .now)) (a .text .now) _ (q .result) _ (q .ensures) (rw (c .before .number .ensures, c .detail .ensures) (ap listedNumbers (sym (c .before .before .before .listed2 .given .1))))
 
 pub pollenloom-list-spec : {M : Type 1} → statement M
 pollenloom-list-spec =

@@ -1,7 +1,6 @@
 -- `pollenloom_read` meets its contract: the reader's answer, in numbers. Assumes nothing.
 use mathlib.Core.Path.{sym, ap}
 use Rattle.outside.specs.Texts.{readNumbers}
-use Rattle.outside.proofs.TextLaws.{tells-read}
 use borrow.Author.Needs.{needs}
 use Rattle.outside.proofs.texts.pollenloom_read.Statement.{statement}
 use Rattle.outside.proofs.texts.pollenloom_read.Tie as tie
@@ -42,8 +41,7 @@ same-length-4 c = search needs
 returns : tie.Need-returns
 returns c =
     let q = c .before .before .before .before .before .before .before .before .before .before .read-run in
-    let a = c .before .before .before .before .before .before .before .before .before .before .before .before .before .before .before .before .before .before .before .args in
-    tells-read (a .text .now) (a .thread .now) (a .kind .now) (a .sample .now) (a .schedule .now) _ _ _ _ (q .result) _ (q .ensures) (ap readNumbers (sym (c .before .read .given .1)))
+    record { read = q .result; says = q .ensures; answer = ap readNumbers (sym (c .before .read .given .1)) }
 
 same-length-5 : tie.Need-same-length-5
 same-length-5 c = search needs
@@ -60,8 +58,7 @@ same-length-8 c = search needs
 returns-2 : tie.Need-returns-2
 returns-2 c =
     let q = c .before .before .before .before .before .before .before .before .before .before .before .before .read-run in
-    let a = c .before .before .before .before .before .before .before .before .before .before .before .before .before .before .before .before .before .before .before .before .before .args in
-    tells-read (a .text .now) (a .thread .now) (a .kind .now) (a .sample .now) (a .schedule .now) _ _ _ _ (q .result) _ (q .ensures) (rw (c .before .number .ensures, c .detail .ensures) (ap readNumbers (sym (c .before .before .before .read2 .given .1))))
+    record { read = q .result; says = q .ensures; answer = rw (c .before .number .ensures, c .detail .ensures) (ap readNumbers (sym (c .before .before .before .read2 .given .1))) }
 
 pub pollenloom-read-spec : {M : Type 1} → statement M
 pollenloom-read-spec =

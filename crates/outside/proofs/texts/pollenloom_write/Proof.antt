@@ -1,7 +1,7 @@
 -- `pollenloom_write` meets its contract: the writer's answer, in numbers. Assumes nothing.
 use mathlib.Core.Path.{sym, ap}
-use Rattle.outside.specs.Texts.{writeNumbers}
-use Rattle.outside.proofs.TextLaws.{tells-written}
+use Rattle.limits.specs.Operations.{inputOf}
+use Rattle.outside.proofs.TextLaws.{writtenNumbers, tells-written}
 use borrow.Author.Needs.{needs}
 use Rattle.outside.proofs.texts.pollenloom_write.Statement.{statement}
 use Rattle.outside.proofs.texts.pollenloom_write.Tie as tie
@@ -28,7 +28,7 @@ returns : tie.Need-returns
 returns c =
     let q = c .before .before .before .before .before .write-run in
     let a = c .before .before .before .before .before .before .before .before .before .before .before .args in
-    tells-written (a .threads) (a .slots) (a .thread .now) (a .kind .now) (a .sample .now) (a .schedule .now) (a .text .now) _ (q .result) _ (q .ensures) (ap writeNumbers (sym (c .before .made .given .1)))
+    tells-written (inputOf (a .threads) (a .slots) (a .thread .now) (a .kind .now) (a .sample .now) (a .schedule .now)) (a .text .now) _ (q .result) _ (q .ensures) (ap writtenNumbers (sym (c .before .made .given .1)))
 
 same-length-2 : tie.Need-same-length-2
 same-length-2 c = search needs
@@ -37,7 +37,7 @@ returns-2 : tie.Need-returns-2
 returns-2 c =
     let q = c .before .before .before .before .before .before .before .write-run in
     let a = c .before .before .before .before .before .before .before .before .before .before .before .before .before .args in
-    tells-written (a .threads) (a .slots) (a .thread .now) (a .kind .now) (a .sample .now) (a .schedule .now) (a .text .now) _ (q .result) _ (q .ensures) (rw (c .before .number .ensures, c .detail .ensures) (ap writeNumbers (sym (c .before .before .before .made2 .given .1))))
+    tells-written (inputOf (a .threads) (a .slots) (a .thread .now) (a .kind .now) (a .sample .now) (a .schedule .now)) (a .text .now) _ (q .result) _ (q .ensures) (rw (c .before .number .ensures, c .detail .ensures) (ap writtenNumbers (sym (c .before .before .before .made2 .given .1))))
 
 pub pollenloom-write-spec : {M : Type 1} → statement M
 pollenloom-write-spec =

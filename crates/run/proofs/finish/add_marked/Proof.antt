@@ -1,5 +1,5 @@
 -- `add_marked` meets its contract: its two ways out are the two of the twin. Assumes nothing.
-use borrow.Author.Tests.{lt-leb, le-leb, eq-eqb, ne-eqb}
+use borrow.Author.Tests.{eq-eqb, ne-eqb}
 use borrow.Author.Needs.{needs}
 use Rattle.run.proofs.finish.add_marked.Statement.{statement}
 use Rattle.run.proofs.finish.add_marked.Tie as tie

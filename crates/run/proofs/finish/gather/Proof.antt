@@ -1,11 +1,11 @@
 -- `gather` meets its contract. The invariant: what is gathered and what is left make the whole row. Assumes nothing.
 use mathlib.Core.Path.{_≡_, refl, sym, ap, _∙_}
-use Prim.Native.Nat.{ℕ, _+_, _-_, _≤_, _<_, _^_}
+use Prim.Native.Nat.{ℕ, _+_, _-_, _≤_}
 use native.Mathlib.Omega.{arith}
 use mathlib.Core.List.{List, _++_, append-nil}
 use lib.ListN.{length, getD, take}
 use borrow.Author.Needs.{needs}
-use Rattle.run.specs.FinalTwin.{gathered, addedIf}
+use Rattle.run.specs.FinalTwin.{gathered}
 use Rattle.run.proofs.FinalLaws.{gather-next, gather-end, added-few, added-long}
 use borrow.Author.Needs.{needs}
 use Rattle.run.proofs.finish.gather.Statement.{statement}

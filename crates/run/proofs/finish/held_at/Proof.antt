@@ -1,6 +1,6 @@
 -- `held_at` meets its contract: nothing in an empty slot, else its owner's sample. Assumes nothing.
-use borrow.Author.Tests.{lt-leb, le-leb, eq-eqb, ne-eqb}
-use mathlib.Core.Path.{_≡_, refl, sym, ap, _∙_}
+use borrow.Author.Tests.{eq-eqb, ne-eqb}
+use mathlib.Core.Path.{sym}
 use lib.IntN.{pos}
 use lib.ListN.{getD, List·getD-eq-default}
 use Rattle.limits.proofs.LimitsLaws.{back32}

@@ -1,5 +1,5 @@
 -- `phase_of` meets its contract: each arm is the view's clause. Assumes nothing.
-use mathlib.Core.Path.{_≡_, refl, sym, ap, _∙_}
+use mathlib.Core.Path.{sym, ap, _∙_}
 use Prim.Native.Nat.{_<_, _^_}
 use lib.Signed.{mag}
 use Rattle.machine.specs.declared.Phase.the-variants.{Holding}

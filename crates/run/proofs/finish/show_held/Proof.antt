@@ -1,10 +1,10 @@
 -- `show_held` meets its contract. The invariant: the entries passed are what the slots hold. Assumes nothing.
-use mathlib.Core.Path.{_≡_, refl, sym, ap, _∙_}
-use Prim.Native.Nat.{ℕ, _+_, _-_, _≤_, _<_, _^_}
+use mathlib.Core.Path.{_≡_, refl, ap, _∙_}
+use Prim.Native.Nat.{ℕ, _+_, _-_, _≤_}
 use native.Mathlib.Omega.{arith}
 use mathlib.Core.List.{List, _++_}
 use lib.IntN.{ℤ, pos}
-use lib.ListN.{length, getD, set, drop, length-set}
+use lib.ListN.{length, set, drop, length-set}
 use borrow.Author.Needs.{needs}
 use Rattle.run.specs.FinalTwin.{tab, heldAt}
 use Rattle.limits.proofs.LimitsLaws.{back32}

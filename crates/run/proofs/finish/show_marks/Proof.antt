@@ -1,6 +1,6 @@
 -- `show_marks` meets its contract. The invariant: the entries passed are the marks. Assumes nothing.
-use mathlib.Core.Path.{_≡_, refl, sym, ap, _∙_}
-use Prim.Native.Nat.{ℕ, _+_, _-_, _≤_, _<_, _^_}
+use mathlib.Core.Path.{_≡_, refl, ap, _∙_}
+use Prim.Native.Nat.{ℕ, _+_, _-_, _≤_}
 use native.Mathlib.Omega.{arith}
 use mathlib.Core.List.{List, _++_}
 use lib.ListN.{length, getD, set, drop, length-set}

@@ -1,14 +1,14 @@
 -- `show_threads` meets its contract. The invariant: the records passed are the threads'. Assumes nothing.
-use mathlib.Core.Path.{_≡_, refl, sym, ap, _∙_}
-use Prim.Native.Nat.{ℕ, _+_, _-_, _≤_, _<_, _^_}
+use mathlib.Core.Path.{_≡_, refl, ap, _∙_}
+use Prim.Native.Nat.{ℕ, _+_, _-_, _≤_}
 use native.Mathlib.Omega.{arith}
 use mathlib.Core.List.{List, _++_}
-use lib.ListN.{length, getD, set, drop, replicate}
+use lib.ListN.{set, drop, replicate}
 use borrow.Author.Needs.{needs}
 use Rattle.machine.specs.declared.Phase.{Phase}
 use Rattle.machine.specs.declared.ThreadRecord.{ThreadRecord}
 use Rattle.run.specs.FinalTwin.{tab, recordAt, shownThreads}
-use Rattle.run.specs.Run.{restRecord}
+use Rattle.run.specs.Core.{restRecord}
 use Rattle.run.proofs.FinalLaws.{tab-next}
 use borrow.Author.Needs.{needs}
 use Rattle.run.proofs.finish.show_threads.Statement.{statement}

@@ -1,5 +1,5 @@
 -- `begin` meets its contract: its two ways out are the two of the twin. Assumes nothing.
-use borrow.Author.Tests.{lt-ltb, le-ltb, eq-eqb, ne-eqb}
+use borrow.Author.Tests.{eq-eqb, ne-eqb}
 use Rattle.stepping.specs.Twins.{begunMoved}
 use borrow.Author.Needs.{needs}
 use Rattle.stepping.proofs.phases.begin.Statement.{statement}

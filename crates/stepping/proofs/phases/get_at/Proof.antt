@@ -1,5 +1,5 @@
 -- `get_at` meets its contract: past the end of the array there is nothing. Assumes nothing.
-use borrow.Author.Tests.{lt-ltb, le-ltb, eq-eqb, ne-eqb}
+use borrow.Author.Tests.{lt-ltb, le-ltb}
 use borrow.Author.Needs.{needs}
 use Rattle.stepping.proofs.phases.get_at.Statement.{statement}
 use Rattle.stepping.proofs.phases.get_at.Tie as tie

@@ -1,6 +1,6 @@
 -- `give_back` meets its contract: one event more, and the next operation of the plan. Assumes nothing.
-use mathlib.Core.Path.{_≡_, refl, sym, ap, _∙_}
-use lib.ListN.{length, getD, set, List·getD-eq-default}
+use mathlib.Core.Path.{ap, _∙_}
+use lib.ListN.{set}
 use lib.IntN.{ℤ}
 use mir.Facts.{toZ-ofZ}
 use borrow.Author.Needs.{needs}

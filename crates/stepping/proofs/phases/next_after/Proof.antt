@@ -1,5 +1,5 @@
 -- `next_after` meets its contract: past the end of the plan there is no operation. Assumes nothing.
-use borrow.Author.Tests.{lt-ltb, le-ltb, eq-eqb, ne-eqb}
+use borrow.Author.Tests.{lt-ltb, le-ltb}
 use borrow.Author.Needs.{needs}
 use Rattle.stepping.proofs.phases.next_after.Statement.{statement}
 use Rattle.stepping.proofs.phases.next_after.Tie as tie

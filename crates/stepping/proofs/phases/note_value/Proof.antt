@@ -1,5 +1,5 @@
 -- `note_value` meets its contract: past the end of the list nothing is set. Assumes nothing.
-use mathlib.Core.Path.{_≡_, refl, sym, ap, _∙_}
+use mathlib.Core.Path.{sym}
 use lib.Seq.{set-out}
 use borrow.Author.Needs.{needs}
 use Rattle.stepping.proofs.phases.note_value.Statement.{statement}

@@ -1,6 +1,6 @@
 -- `pass_by` meets its contract: a slot is left in the pass, or none. Assumes nothing.
-use borrow.Author.Tests.{lt-ltb, le-ltb, eq-eqb, ne-eqb}
-use Prim.Native.Nat.{ℕ, _+_, _*_, _≤_, _<_}
+use borrow.Author.Tests.{lt-ltb, le-ltb}
+use Prim.Native.Nat.{_+_, _≤_}
 use native.Mathlib.Omega.{arith}
 use Rattle.stepping.specs.Twins.{passedMoved}
 use borrow.Author.Needs.{needs}

@@ -1,5 +1,5 @@
 -- `reserve` meets its contract: with a slot left the count rises, else nothing changes. Assumes nothing.
-use borrow.Author.Tests.{lt-ltb, le-ltb, eq-eqb, ne-eqb}
+use borrow.Author.Tests.{lt-ltb, le-ltb}
 use Rattle.stepping.specs.Twins.{reservedMoved}
 use borrow.Author.Needs.{needs}
 use Rattle.stepping.proofs.phases.reserve.Statement.{statement}

@@ -1,6 +1,6 @@
 -- `sample_of` meets its contract: past the end of the list there is no sample. Assumes nothing.
-use mathlib.Core.Path.{_≡_, refl, sym, ap, _∙_}
-use lib.ListN.{length, getD, set, List·getD-eq-default}
+use mathlib.Core.Path.{sym}
+use lib.ListN.{List·getD-eq-default}
 use lib.IntN.{pos}
 use borrow.Author.Needs.{needs}
 use Rattle.stepping.proofs.phases.sample_of.Statement.{statement}

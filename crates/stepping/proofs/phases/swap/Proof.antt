@@ -1,7 +1,7 @@
 -- `swap` meets its contract: an empty slot is passed by, a filled one is emptied and its find listed. Assumes nothing.
-use borrow.Author.Tests.{lt-ltb, le-ltb, eq-eqb, ne-eqb}
-use mathlib.Core.Path.{_≡_, refl, sym, ap, _∙_}
-use Prim.Native.Nat.{ℕ, _+_, _*_, _≤_, _<_}
+use borrow.Author.Tests.{eq-eqb, ne-eqb}
+use mathlib.Core.Path.{sym, ap, _∙_}
+use Prim.Native.Nat.{ℕ}
 use Rattle.stepping.specs.Twins.{swappedMoved, swappedMarks, swappedList, getIn, setIn}
 use Rattle.limits.proofs.LimitsLaws.{back32}
 use borrow.Author.Needs.{needs}
