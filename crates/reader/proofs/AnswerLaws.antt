@@ -18,7 +18,7 @@ use Rattle.limits.specs.Operations.{inputOf}
 use Rattle.limits.specs.Refusals.{inputRefusal}
 use Rattle.runfile.specs.declared.Read.{Read}
 use Rattle.runfile.specs.declared.Read.the-variants as Rd
-use Rattle.reader.specs.declared.Parsed.the-variants as Pa
+use Rattle.reader.specs.declared.whole.Parsed.the-variants as Pa
 use Rattle.runfile.specs.Reading.{File, file, wrong, readOf}
 use Rattle.runfile.specs.Answers.{fileFit, readFit, ReadSays}
 use Rattle.reader.specs.Twins.{ParsedSays, SettleSays}

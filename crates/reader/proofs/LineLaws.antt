@@ -20,9 +20,9 @@ use Rattle.numerals.proofs.NumeralRound.{SampleIs, sample-is, cond-elim}
 use Rattle.limits.specs.declared.Refusal.the-variants as X
 use Rattle.runfile.specs.declared.Operation.{Operation}
 use Rattle.runfile.specs.declared.Operation.the-variants as O
-use Rattle.reader.specs.declared.Pair.the-variants as P
-use Rattle.reader.specs.declared.Head.the-variants as H
-use Rattle.reader.specs.declared.Steps.the-variants as St
+use Rattle.reader.specs.declared.fields.Pair.the-variants as P
+use Rattle.reader.specs.declared.whole.Head.the-variants as H
+use Rattle.reader.specs.declared.whole.Steps.the-variants as St
 use Rattle.runfile.specs.Spelling.{threadsWord, slotsWord, putWord, takeWord, stepWord}
 use Rattle.runfile.specs.Reading.{parts, same, numberAfter, takeOf, putOf, operationOf, File, file, wrong, addThreads, addSlots, addOp, addStep, orWrong, orSteps, stepsFrom, opsFrom, slotsThen, threadsThen}
 use Rattle.runfile.specs.Twins.{until}

@@ -8,10 +8,10 @@ use Rattle.numerals.specs.declared.Number.{Number}
 use Rattle.numerals.specs.declared.Number.the-variants as N
 use Rattle.limits.specs.declared.Refusal.{Refusal}
 use Rattle.limits.specs.declared.Refusal.the-variants as X
-use Rattle.reader.specs.declared.Head.the-variants as H
-use Rattle.reader.specs.declared.Steps.the-variants as St
-use Rattle.reader.specs.declared.Parsed.{Parsed}
-use Rattle.reader.specs.declared.Parsed.the-variants as Pa
+use Rattle.reader.specs.declared.whole.Head.the-variants as H
+use Rattle.reader.specs.declared.whole.Steps.the-variants as St
+use Rattle.reader.specs.declared.whole.Parsed.{Parsed}
+use Rattle.reader.specs.declared.whole.Parsed.the-variants as Pa
 use Rattle.runfile.specs.Spelling.{stepWord}
 use Rattle.runfile.specs.Reading.{parts, numberAfter, File, file, wrong, addThreads, addSlots, addStep, orWrong, stepsFrom, readOf}
 use Rattle.reader.specs.Twins.{HeadSays, underOps, Done, OpsSays, StepsSay, ParsedSays}

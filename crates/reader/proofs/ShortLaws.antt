@@ -9,8 +9,8 @@ use Rattle.numerals.specs.Decimal.{decimal}
 use Rattle.numerals.proofs.PrintLaws.{decimal-one, decimal-more}
 use Rattle.runfile.specs.Spelling.{stepWord, pairLine, ended}
 use Rattle.runfile.specs.Reading.{parts}
-use Rattle.runfile.proofs.Round.{pair-line, step-first}
-use Rattle.reader.specs.declared.Pair.the-variants as P
+use Rattle.runfile.proofs.ReadRound.{pair-line, step-first}
+use Rattle.reader.specs.declared.fields.Pair.the-variants as P
 use Rattle.reader.specs.Twins.{LineSays}
 
 -- a text that goes on with the line of a step

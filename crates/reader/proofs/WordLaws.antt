@@ -19,7 +19,7 @@ use Rattle.numerals.specs.declared.Sample.the-variants as S
 use Rattle.numerals.specs.Reading.{numberOf, sampleOf}
 use Rattle.numerals.proofs.NumeralRound.{SampleIs, sample-is}
 use Rattle.runfile.specs.declared.Operation.the-variants as O
-use Rattle.reader.specs.declared.Field.the-variants as F
+use Rattle.reader.specs.declared.fields.Field.the-variants as F
 use Rattle.runfile.specs.Spelling.{putWord, takeWord}
 use Rattle.runfile.specs.Reading.{parts, same, numberAfter, takeOf, putOf, operationOf}
 use Rattle.runfile.specs.Twins.{until, Free}

@@ -23,18 +23,18 @@ use Rattle.limits.specs.Operations.{Input}
 use Rattle.limits.specs.Refusals.{byFit, lentAfter}
 use Rattle.runfile.specs.declared.Operation.{Operation}
 use Rattle.runfile.specs.declared.Operation.the-variants as O
-use Rattle.reader.specs.declared.Field.{Field}
-use Rattle.reader.specs.declared.Field.the-variants as F
-use Rattle.reader.specs.declared.Pair.{Pair}
-use Rattle.reader.specs.declared.Pair.the-variants as P
-use Rattle.reader.specs.declared.Head.{Head}
-use Rattle.reader.specs.declared.Head.the-variants as H
-use Rattle.reader.specs.declared.Steps.{Steps}
-use Rattle.reader.specs.declared.Steps.the-variants as St
+use Rattle.reader.specs.declared.fields.Field.{Field}
+use Rattle.reader.specs.declared.fields.Field.the-variants as F
+use Rattle.reader.specs.declared.fields.Pair.{Pair}
+use Rattle.reader.specs.declared.fields.Pair.the-variants as P
+use Rattle.reader.specs.declared.whole.Head.{Head}
+use Rattle.reader.specs.declared.whole.Head.the-variants as H
+use Rattle.reader.specs.declared.whole.Steps.{Steps}
+use Rattle.reader.specs.declared.whole.Steps.the-variants as St
 use Rattle.runfile.specs.declared.Read.{Read}
 use Rattle.runfile.specs.declared.Read.the-variants as Rd
-use Rattle.reader.specs.declared.Parsed.{Parsed}
-use Rattle.reader.specs.declared.Parsed.the-variants as Pa
+use Rattle.reader.specs.declared.whole.Parsed.{Parsed}
+use Rattle.reader.specs.declared.whole.Parsed.the-variants as Pa
 use Rattle.runfile.specs.Spelling.{putWord, stepWord}
 use Rattle.runfile.specs.Reading.{parts, same, numberAfter, putOf, File, file, wrong, addThreads, addSlots, opsFrom, stepsFrom, threadsThen}
 use Rattle.runfile.specs.Answers.{inputIn, fileFit}

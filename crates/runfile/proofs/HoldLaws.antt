@@ -20,7 +20,8 @@ use Rattle.runfile.specs.Reading.{readOf}
 use Rattle.runfile.proofs.InputLaws.{GoodOps, good-ops, GoodSteps}
 use Rattle.runfile.proofs.TextLaws.{fit-thread, AllFit, all-fit}
 use Rattle.runfile.proofs.SpellingLaws.{run-spelled}
-use Rattle.runfile.proofs.Round.{kind-of, Fits, read-text, text-read, read-fits}
+use Rattle.runfile.proofs.ReadRound.{kind-of, Fits, read-text}
+use Rattle.runfile.proofs.TextRound.{text-read, read-fits}
 
 -- ---- one operation
 op-good : (t k : ℕ) (x : ℤ) → OpFits t k x → (unfit 256 t k x ≡ false) × SFits w32 x

@@ -4,7 +4,8 @@ pub mod TurnLaws
 pub mod InputLaws
 pub mod FitLaws
 pub mod TextLaws
-pub mod Round
+pub mod ReadRound
+pub mod TextRound
 pub mod SpellingLaws
 pub mod HoldLaws
 pub mod LinesLaws

@@ -41,7 +41,7 @@ use Rattle.limits.proofs.PassLaws.{input-passed}
 use Rattle.limits.proofs.FitLaws.{fit-told, then-pass}
 use Rattle.runfile.proofs.FitLaws.{all-room, fit-room}
 use Rattle.runfile.proofs.TextLaws.{all-fit, text-short}
-use Rattle.runfile.proofs.Round.{read-text, passed-fits}
+use Rattle.runfile.proofs.ReadRound.{read-text, passed-fits}
 use Rattle.runfile.proofs.SpellingLaws.{run-spelled}
 pub use Rattle.runfile.proofs.HoldLaws.{read-run, run-read, wrong-none, read-or-wrong}
 pub use Rattle.runfile.proofs.WrongLaws.{read-wrong, wrong-one, wrong-read, read-holds, holds-read, holds-one}

@@ -16,7 +16,8 @@ use Rattle.runfile.specs.Twins.{Free}
 use Rattle.runfile.proofs.PartsLaws.{Some, parts-some, parts-append}
 use Rattle.runfile.proofs.InputLaws.{GoodOps, GoodSteps}
 use Rattle.runfile.proofs.TextLaws.{AllFit}
-use Rattle.runfile.proofs.Round.{PairIs, pair-is, OpIs, op-is, free-pair, free-op, step-first}
+use Rattle.runfile.proofs.ReadRound.{free-pair, free-op, step-first}
+use Rattle.runfile.proofs.TextRound.{PairIs, pair-is, OpIs, op-is}
 use Rattle.runfile.proofs.LinesLaws.{Agree}
 use Rattle.runfile.proofs.PastLaws.{keeps-threads, keeps-slots, keeps-op, keeps-step}
 

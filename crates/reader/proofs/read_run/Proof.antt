@@ -6,8 +6,8 @@ use native.Mathlib.Omega.{arith}
 use lib.ListN.{replicate, length-replicate}
 use lib.Seq.{length-take-le}
 use lib.IntN.{pos}
-use Rattle.reader.specs.declared.Parsed.{Parsed}
-use Rattle.reader.specs.declared.Parsed.the-variants as Pa
+use Rattle.reader.specs.declared.whole.Parsed.{Parsed}
+use Rattle.reader.specs.declared.whole.Parsed.the-variants as Pa
 use Rattle.runfile.specs.Reading.{readOf}
 use Rattle.reader.specs.Twins.{ParsedSays}
 use Rattle.reader.proofs.AnswerLaws.{read-long, read-wrong, read-held}

@@ -1,4 +1,4 @@
--- `reader::read_ops` meets its contract. The invariant: the operations read are stored, and the reading from a on, under them, is the whole
+-- `reader::whole::read_ops` meets its contract. The invariant: the operations read are stored, and the reading from a on, under them, is the whole
 -- reading. Assumes nothing.
 use mathlib.Core.Path.{_≡_, refl, sym, _∙_}
 use Prim.Native.Nat.{_≤_, _+_, _-_}
@@ -6,8 +6,8 @@ use native.Mathlib.Omega.{arith}
 use lib.ListN.{length}
 use Rattle.reader.proofs.LineLaws.{LeftOps, ops-start, ops-unended, ops-end, ops-next}
 use borrow.Author.Needs.{needs}
-use Rattle.reader.proofs.read_ops.Statement.{statement}
-use Rattle.reader.proofs.read_ops.Tie as tie
+use Rattle.reader.proofs.whole.read_ops.Statement.{statement}
+use Rattle.reader.proofs.whole.read_ops.Tie as tie
 
 abbrev Inv-loop : tie.InvT-loop
 Inv-loop text from first thread₀ kind₀ sample₀ n a₀ k₀ count₀ thread kind sample a k count =

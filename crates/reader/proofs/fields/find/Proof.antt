@@ -1,4 +1,4 @@
--- `reader::find` meets its contract. The invariant: counting from a and counting from i give the same place.
+-- `reader::fields::find` meets its contract. The invariant: counting from a and counting from i give the same place.
 -- Assumes nothing.
 use mathlib.Core.Path.{_≡_, refl}
 use Prim.Native.Nat.{_≤_, _-_, _+_}
@@ -6,8 +6,8 @@ use native.Mathlib.Omega.{arith}
 use lib.ListN.{length, drop}
 use Rattle.runfile.specs.Twins.{until}
 use Rattle.runfile.proofs.PartsLaws.{until-hit, until-miss, until-end}
-use Rattle.reader.proofs.find.Statement.{statement}
-use Rattle.reader.proofs.find.Tie as tie
+use Rattle.reader.proofs.fields.find.Statement.{statement}
+use Rattle.reader.proofs.fields.find.Tie as tie
 
 abbrev Inv-loop : tie.InvT-loop
 Inv-loop s a x n i₀ i = (n ≡ length s) × ((i ≤ length s) × (a + until x (drop a s) ≡ i + until x (drop i s)))

@@ -1,17 +1,17 @@
--- `reader::read_steps` meets its contract. The invariant: what was read is stored, and the reading from a on, under it, is the whole reading.
+-- `reader::whole::read_steps` meets its contract. The invariant: what was read is stored, and the reading from a on, under it, is the whole reading.
 -- Assumes nothing.
 use mathlib.Core.Path.{_≡_, refl, _∙_, subst}
 use Prim.Native.Nat.{_≤_, _+_, _-_}
 use native.Mathlib.Omega.{arith}
 use lib.ListN.{length}
-use Rattle.reader.specs.declared.Pair.{Pair}
-use Rattle.reader.specs.declared.Pair.the-variants as P
+use Rattle.reader.specs.declared.fields.Pair.{Pair}
+use Rattle.reader.specs.declared.fields.Pair.the-variants as P
 use Rattle.runfile.specs.Spelling.{stepWord}
 use Rattle.reader.specs.Twins.{LineSays}
 use Rattle.reader.proofs.LineLaws.{Left, left-start, left-bad, left-next, left-end}
 use borrow.Author.Needs.{needs}
-use Rattle.reader.proofs.read_steps.Statement.{statement}
-use Rattle.reader.proofs.read_steps.Tie as tie
+use Rattle.reader.proofs.whole.read_steps.Statement.{statement}
+use Rattle.reader.proofs.whole.read_steps.Tie as tie
 
 abbrev Inv-loop : tie.InvT-loop
 Inv-loop text from first out₀ n a₀ k₀ count₀ out a k count =

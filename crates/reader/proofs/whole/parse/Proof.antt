@@ -1,17 +1,17 @@
--- `reader::parse` meets its contract: the first two lines, the operations and the schedule, each read where the one before ended.
+-- `reader::whole::parse` meets its contract: the first two lines, the operations and the schedule, each read where the one before ended.
 -- Assumes nothing.
 use mathlib.Core.Path.{_≡_, subst}
 use lib.ListN.{drop}
-use Rattle.reader.specs.declared.Head.{Head}
-use Rattle.reader.specs.declared.Head.the-variants as H
-use Rattle.reader.specs.declared.Steps.{Steps}
-use Rattle.reader.specs.declared.Steps.the-variants as St
+use Rattle.reader.specs.declared.whole.Head.{Head}
+use Rattle.reader.specs.declared.whole.Head.the-variants as H
+use Rattle.reader.specs.declared.whole.Steps.{Steps}
+use Rattle.reader.specs.declared.whole.Steps.the-variants as St
 use Rattle.runfile.specs.Reading.{parts, stepsFrom}
 use Rattle.reader.specs.Twins.{HeadSays, StepsSay}
 use Rattle.reader.proofs.ParseLaws.{parse-head, parse-steps, parse-done}
 use borrow.Author.Needs.{needs}
-use Rattle.reader.proofs.parse.Statement.{statement}
-use Rattle.reader.proofs.parse.Tie as tie
+use Rattle.reader.proofs.whole.parse.Statement.{statement}
+use Rattle.reader.proofs.whole.parse.Tie as tie
 
 -- the first lines, once their answer is taken apart
 head : (s : tie.After-read-head) (r : Head) → s .read-head .result ≡ r → HeadSays (s .before .before .before .before .before .args .text .now) r

@@ -1,9 +1,9 @@
--- `reader::put_at` meets its contract: where there is no such place, the store that the contract names does nothing. Assumes nothing.
+-- `reader::whole::put_at` meets its contract: where there is no such place, the store that the contract names does nothing. Assumes nothing.
 use mathlib.Core.Path.{sym}
 use lib.Seq.{set-out}
 use borrow.Author.Needs.{needs}
-use Rattle.reader.proofs.put_at.Statement.{statement}
-use Rattle.reader.proofs.put_at.Tie as tie
+use Rattle.reader.proofs.whole.put_at.Statement.{statement}
+use Rattle.reader.proofs.whole.put_at.Tie as tie
 
 slice-write-out : tie.Need-slice-write-out
 slice-write-out c = search needs

@@ -1,17 +1,17 @@
--- `reader::read_pair` meets its contract: what follows the word and its tab is read as the number; where they are missing, so is the line.
+-- `reader::fields::read_pair` meets its contract: what follows the word and its tab is read as the number; where they are missing, so is the line.
 -- Assumes nothing.
 use mathlib.Core.Path.{_≡_, sym, _∙_, subst}
 use mathlib.Core.List.{List}
 use Prim.Native.Nat.{ℕ, _≤_, _-_}
 use lib.ListN.{take, drop}
-use Rattle.reader.specs.declared.Field.{Field}
-use Rattle.reader.specs.declared.Field.the-variants as F
+use Rattle.reader.specs.declared.fields.Field.{Field}
+use Rattle.reader.specs.declared.fields.Field.the-variants as F
 use Rattle.reader.specs.Twins.{PassSays}
 use Rattle.runfile.proofs.FieldLaws.{number-none}
 use Rattle.reader.proofs.WordLaws.{pair-at, pair-inside}
 use borrow.Author.Needs.{needs}
-use Rattle.reader.proofs.read_pair.Statement.{statement}
-use Rattle.reader.proofs.read_pair.Tie as tie
+use Rattle.reader.proofs.fields.read_pair.Statement.{statement}
+use Rattle.reader.proofs.fields.read_pair.Tie as tie
 
 -- what is said of the word, once the answer is taken apart
 module _ (s : tie.After-pass-word) where

@@ -1,11 +1,11 @@
--- `reader::read_line` meets its contract: the line ends at the first line feed, and its fields say whether it is one of the word and a number.
+-- `reader::fields::read_line` meets its contract: the line ends at the first line feed, and its fields say whether it is one of the word and a number.
 -- Assumes nothing.
 use mathlib.Core.Path.{sym, _∙_}
 use Prim.Native.Nat.{_-_}
 use Rattle.reader.proofs.LineLaws.{line-unended, line-bad, line-is}
 use borrow.Author.Needs.{needs}
-use Rattle.reader.proofs.read_line.Statement.{statement}
-use Rattle.reader.proofs.read_line.Tie as tie
+use Rattle.reader.proofs.fields.read_line.Statement.{statement}
+use Rattle.reader.proofs.fields.read_line.Tie as tie
 
 find-requires : tie.Need-find-requires
 find-requires c κs = search needs

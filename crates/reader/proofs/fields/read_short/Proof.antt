@@ -1,13 +1,13 @@
--- `reader::read_short` meets its contract: the bytes that it tests are those of the line of a step of one or two digits. Assumes nothing.
+-- `reader::fields::read_short` meets its contract: the bytes that it tests are those of the line of a step of one or two digits. Assumes nothing.
 use mathlib.Core.Path.{refl}
 use Prim.Native.Nat.{_+_}
 use borrow.Author.Tests.{not-false}
 use Rattle.reader.proofs.ShortLaws.{short-one, short-two}
 use borrow.Author.Needs.{needs}
-use Rattle.reader.proofs.read_short.Statement.{statement}
-use Rattle.reader.proofs.read_short.Tie as tie
-use Rattle.reader.proofs.read_short.Reads as reads
-use Rattle.reader.proofs.read_short.Lts as lts
+use Rattle.reader.proofs.fields.read_short.Statement.{statement}
+use Rattle.reader.proofs.fields.read_short.Tie as tie
+use Rattle.reader.proofs.fields.read_short.Reads as reads
+use Rattle.reader.proofs.fields.read_short.Lts as lts
 use Rattle.check.proofs.same.Reads as same-reads
 
 sub-if1 : tie.Need-sub-if1

@@ -1,12 +1,12 @@
--- `reader::pass_word` meets its contract: the line begins with the word and a tab exactly where all three tests hold. Assumes nothing.
+-- `reader::fields::pass_word` meets its contract: the line begins with the word and a tab exactly where all three tests hold. Assumes nothing.
 use mathlib.Core.Path.{refl, sym, _∙_}
 use Prim.Native.Nat.{_+_, _-_}
 use lib.ListN.{length}
 use mathlib.Core.Bool.{false≢true}
 use Rattle.reader.proofs.WordLaws.{pass-short, pass-untabbed, pass-other, pass-at}
 use borrow.Author.Needs.{needs}
-use Rattle.reader.proofs.pass_word.Statement.{statement}
-use Rattle.reader.proofs.pass_word.Tie as tie
+use Rattle.reader.proofs.fields.pass_word.Statement.{statement}
+use Rattle.reader.proofs.fields.pass_word.Tie as tie
 
 sub-if1 : tie.Need-sub-if1
 sub-if1 c = search needs

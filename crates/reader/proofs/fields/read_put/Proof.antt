@@ -1,4 +1,4 @@
--- `reader::read_put` meets its contract: after the word stand the thread, up to the next tab, and the sample, up to the line's end.
+-- `reader::fields::read_put` meets its contract: after the word stand the thread, up to the next tab, and the sample, up to the line's end.
 -- Assumes nothing.
 use mathlib.Core.Path.{_≡_, sym, _∙_, ap, subst}
 use mathlib.Core.List.{List}
@@ -10,15 +10,15 @@ use Rattle.numerals.specs.declared.Number.{Number}
 use Rattle.numerals.specs.declared.Sample.the-variants as S
 use Rattle.numerals.specs.Reading.{numberOf, sampleOf}
 use Rattle.runfile.specs.declared.Operation.the-variants as O
-use Rattle.reader.specs.declared.Field.{Field}
-use Rattle.reader.specs.declared.Field.the-variants as F
+use Rattle.reader.specs.declared.fields.Field.{Field}
+use Rattle.reader.specs.declared.fields.Field.the-variants as F
 use Rattle.runfile.specs.Spelling.{putWord}
 use Rattle.runfile.specs.Reading.{parts, putOf}
 use Rattle.reader.specs.Twins.{PassSays, putIn}
 use Rattle.reader.proofs.WordLaws.{put-none, put-one, put-two, pair-inside, sample-exact}
 use borrow.Author.Needs.{needs}
-use Rattle.reader.proofs.read_put.Statement.{statement}
-use Rattle.reader.proofs.read_put.Tie as tie
+use Rattle.reader.proofs.fields.read_put.Statement.{statement}
+use Rattle.reader.proofs.fields.read_put.Tie as tie
 
 -- what is said of the word, once the answer is taken apart
 module _ (s : tie.After-pass-word) where

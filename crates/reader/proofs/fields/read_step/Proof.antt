@@ -1,13 +1,13 @@
--- `reader::read_step` meets its contract: the short way where it serves, and otherwise the reading of any line. Assumes nothing.
+-- `reader::fields::read_step` meets its contract: the short way where it serves, and otherwise the reading of any line. Assumes nothing.
 use mathlib.Core.Path.{subst}
 use Rattle.reader.specs.Twins.{ShortSays}
 use borrow.Author.Needs.{needs}
-use Rattle.reader.proofs.read_step.Statement.{statement}
-use Rattle.reader.proofs.read_step.Tie as tie
-use Rattle.reader.proofs.read_step.Reads as reads
-use Rattle.reader.proofs.read_step.Lts as lts
-use Rattle.reader.proofs.read_line.Reads as read-line-reads
-use Rattle.reader.proofs.read_short.Reads as read-short-reads
+use Rattle.reader.proofs.fields.read_step.Statement.{statement}
+use Rattle.reader.proofs.fields.read_step.Tie as tie
+use Rattle.reader.proofs.fields.read_step.Reads as reads
+use Rattle.reader.proofs.fields.read_step.Lts as lts
+use Rattle.reader.proofs.fields.read_line.Reads as read-line-reads
+use Rattle.reader.proofs.fields.read_short.Reads as read-short-reads
 
 read-short-requires : tie.Need-read-short-requires
 read-short-requires c κs = search needs

@@ -1,4 +1,4 @@
--- `reader::read_op` meets its contract: a line that is no take is a put or no operation. Assumes nothing.
+-- `reader::fields::read_op` meets its contract: a line that is no take is a put or no operation. Assumes nothing.
 use mathlib.Core.Path.{sym, _∙_}
 use Prim.Native.Nat.{_-_}
 use lib.ListN.{take, drop}
@@ -6,8 +6,8 @@ use Rattle.runfile.specs.Reading.{parts}
 use Rattle.runfile.proofs.FieldLaws.{op-take}
 use Rattle.reader.proofs.WordLaws.{op-put}
 use borrow.Author.Needs.{needs}
-use Rattle.reader.proofs.read_op.Statement.{statement}
-use Rattle.reader.proofs.read_op.Tie as tie
+use Rattle.reader.proofs.fields.read_op.Statement.{statement}
+use Rattle.reader.proofs.fields.read_op.Tie as tie
 
 slice-aggregate-read-pair : tie.Need-slice-aggregate-read-pair
 slice-aggregate-read-pair c = search needs

@@ -1,14 +1,14 @@
--- `reader::read_head` meets its contract: the first line is the threads, the second the slots. Assumes nothing.
+-- `reader::whole::read_head` meets its contract: the first line is the threads, the second the slots. Assumes nothing.
 use mathlib.Core.Path.{_≡_, refl, subst}
 use Prim.Native.Nat.{_-_}
-use Rattle.reader.specs.declared.Pair.{Pair}
-use Rattle.reader.specs.declared.Pair.the-variants as P
+use Rattle.reader.specs.declared.fields.Pair.{Pair}
+use Rattle.reader.specs.declared.fields.Pair.the-variants as P
 use Rattle.runfile.specs.Spelling.{threadsWord, slotsWord}
 use Rattle.reader.specs.Twins.{LineSays}
 use Rattle.reader.proofs.LineLaws.{head-first, head-second, head-at}
 use borrow.Author.Needs.{needs}
-use Rattle.reader.proofs.read_head.Statement.{statement}
-use Rattle.reader.proofs.read_head.Tie as tie
+use Rattle.reader.proofs.whole.read_head.Statement.{statement}
+use Rattle.reader.proofs.whole.read_head.Tie as tie
 
 slice-aggregate-read-line : tie.Need-slice-aggregate-read-line
 slice-aggregate-read-line c = search needs
