@@ -1,11 +1,14 @@
-// Plays a schedule step by step: the bench's state goes in by value and comes back stepped, once for each schedule entry.
+// Plays an input: the refusals, then the schedule, step by step, from a bench on which nothing moved.
 ghost use mathlib.Core.Path.{_≡_};
-ghost use Prim.Native.Nat.{ℕ, _+_, _≤_, _<_};
-ghost use lib.ListN.{length, getD};
-ghost use Rattle.stepping.specs.Twins.{Within, coreIn, worldOf, turnOf, acted, stepWorld, runWorld, startState, Playable, roomIn, roomFit, playWorld, playRun, idleWorld, playFit, playTwin};
+ghost use Prim.Native.Nat.{_≤_};
+ghost use Rattle.stepping.specs.Twins.{worldOf, Playable, roomIn, roomFit, playWorld, playRun, idleWorld, playFit, playTwin};
 
-mod phases;
+mod cells;
+mod event;
 mod plan;
+mod put;
+mod steps;
+mod take;
 
 use limits::Fit;
 use limits::Refusal;
@@ -62,162 +65,6 @@ pub struct Played {
     pub state: State,
 }
 
-// The step of a thread, by what it is doing.
-fn act(
-    c: Core,
-    th: Thread,
-    kind: &[u8],
-    sample: &[i32],
-    next: &[u8; 128],
-    codes: &mut [u16],
-    values: &mut [i32],
-    marks: &mut [u8; 64],
-    owners: &mut [u8; 64],
-    takes: &mut [u8; 64],
-    puts: &mut [u8; 64],
-) -> Moved
-    requires { ⌜ Within 4096 c ⌝ }
-    ensures { λ r. ⌜ turnOf r (now (codes .exit)) (now (values .exit)) (now (marks .exit)) (now (owners .exit)) (now (takes .exit)) (now (puts .exit))
-        ≡ acted (now (kind .entry)) (now (sample .entry)) (now (next .entry)) c (now (codes .entry)) (now (values .entry)) (now (marks .entry)) (now (owners .entry)) (now (takes .entry)) (now (puts .entry)) (th .doing) ⌝ }
-{
-    let p = th.doing;
-    match p {
-        Doing::Rest(o) => phases::call_next(c, o, kind, codes, values),
-        Doing::CalledPut(o) => phases::reserve(c, o, owners),
-        Doing::Reserved(slot, o) => phases::store(c, slot, o, marks),
-        Doing::Stored(o) => phases::give_back(c, o, 0, next, codes, values),
-        Doing::CalledTake(o) => phases::begin(c, o),
-        Doing::Scanning(slot, end, o) => phases::swap(
-            c,
-            slot,
-            end,
-            o,
-            sample,
-            marks,
-            owners,
-            takes,
-            puts,
-        ),
-        Doing::Holding(o, x) => phases::give_back(c, o, x, next, codes, values),
-    }
-}
-
-// One step of thread t.
-fn step(
-    s: State,
-    t: usize,
-    kind: &[u8],
-    sample: &[i32],
-    next: &[u8; 128],
-    codes: &mut [u16],
-    values: &mut [i32],
-    takes: &mut [u8; 64],
-    puts: &mut [u8; 64],
-) -> State
-    requires { ⌜ (t < 16) × Within 4096 (coreIn s) ⌝ }
-    ensures { λ r. ⌜ worldOf r (now (codes .exit)) (now (values .exit)) (now (takes .exit)) (now (puts .exit))
-        ≡ stepWorld (now (kind .entry)) (now (sample .entry)) (now (next .entry)) (worldOf s (now (codes .entry)) (now (values .entry)) (now (takes .entry)) (now (puts .entry))) t ⌝ }
-{
-    let mut threads = s.threads;
-    let mut marks = s.marks;
-    let mut owners = s.owners;
-    let th = threads[t];
-    let core = Core {
-        back: s.back,
-        events: s.events,
-        idle: s.idle,
-        stores: s.stores,
-        swaps: s.swaps,
-        finds: s.finds,
-        fruitless: s.fruitless,
-    };
-    let m = act(
-        core,
-        th,
-        kind,
-        sample,
-        next,
-        codes,
-        values,
-        &mut marks,
-        &mut owners,
-        takes,
-        puts,
-    );
-    let c = m.core;
-    let moved = m.thread;
-    threads[t] = moved;
-    State {
-        threads: threads,
-        back: c.back,
-        events: c.events,
-        idle: c.idle,
-        marks: marks,
-        stores: c.stores,
-        swaps: c.swaps,
-        finds: c.finds,
-        fruitless: c.fruitless,
-        owners: owners,
-    }
-}
-
-// The whole schedule.
-fn run_all(
-    s: State,
-    schedule: &[u8],
-    kind: &[u8],
-    sample: &[i32],
-    next: &[u8; 128],
-    codes: &mut [u16],
-    values: &mut [i32],
-    takes: &mut [u8; 64],
-    puts: &mut [u8; 64],
-) -> State
-    requires { ⌜ Within 0 (coreIn s) ⌝ }
-    requires { ⌜ (length (now schedule) ≤ 4096) × ((k : ℕ) → k < length (now schedule) → getD (now schedule) k 0 < 16) ⌝ }
-    ensures { λ r. ⌜ worldOf r (now (codes .exit)) (now (values .exit)) (now (takes .exit)) (now (puts .exit))
-        ≡ runWorld (now (kind .entry)) (now (sample .entry)) (now (next .entry)) (worldOf s (now (codes .entry)) (now (values .entry)) (now (takes .entry)) (now (puts .entry))) (now (schedule .entry)) ⌝ }
-{
-    let mut n = s;
-    let mut i: usize = 0;
-    while i < schedule.len() {
-        let t = schedule[i] as usize;
-        n = step(n, t, kind, sample, next, codes, values, takes, puts);
-        i += 1;
-    }
-    n
-}
-
-// A bench on which nothing moved; each thread calls its first operation next.
-fn start(first: [u8; 16]) -> State
-    ensures { λ r. ⌜ r ≡ startState first ⌝ }
-{
-    let th = Thread {
-        doing: Doing::Rest(255),
-    };
-    let mut threads = [th; 16];
-    let mut t: usize = 0;
-    while t < 16 {
-        let o = first[t];
-        threads[t] = Thread {
-            doing: Doing::Rest(o),
-        };
-        t += 1;
-    }
-    State {
-        threads: threads,
-        back: 0,
-        events: 0,
-        idle: 0,
-        marks: [0; 64],
-        stores: 0,
-        swaps: 0,
-        finds: 0,
-        fruitless: 0,
-        owners: [0; 64],
-    }
-}
-
 // Refusal 9, then the run; the input has passed 1 to 8.
 fn play_fit(
     thread: &[u8],
@@ -240,14 +87,14 @@ fn play_fit(
     if !has_room(roomy, thread.len(), codes.len(), values.len()) {
         return Played {
             fit: Fit::Refused(Refusal::Room),
-            state: start([255; 16]),
+            state: plan::start([255; 16]),
         };
     }
     let p = plan::plan_table(thread);
     let first = p.first;
     let next = p.next;
-    let s = start(first);
-    let end = run_all(s, schedule, kind, sample, &next, codes, values, takes, puts);
+    let s = plan::start(first);
+    let end = steps::run_all(s, schedule, kind, sample, &next, codes, values, takes, puts);
     Played {
         fit: Fit::Pass,
         state: end,
@@ -292,7 +139,7 @@ pub fn play(
     match fit {
         Fit::Refused(r) => Played {
             fit: Fit::Refused(r),
-            state: start([255; 16]),
+            state: plan::start([255; 16]),
         },
         Fit::Pass => play_fit(
             thread,

@@ -13,7 +13,7 @@ use Rattle.stepping.proofs.play.Reads as reads
 use Rattle.stepping.proofs.play.Lts as lts
 use Rattle.limits.proofs.check_input.Reads as check-input-reads
 use Rattle.stepping.proofs.play_fit.Reads as play-fit-reads
-use Rattle.stepping.proofs.start.Reads as start-reads
+use Rattle.stepping.proofs.plan.start.Reads as start-reads
 
 check-input-requires : tie.Need-check-input-requires
 check-input-requires c κs = search needs

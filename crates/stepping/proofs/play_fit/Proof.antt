@@ -14,8 +14,8 @@ use Rattle.stepping.proofs.play_fit.Reads as reads
 use Rattle.stepping.proofs.play_fit.Lts as lts
 use Rattle.stepping.proofs.has_room.Reads as has-room-reads
 use Rattle.stepping.proofs.plan.plan_table.Reads as plan-table-reads
-use Rattle.stepping.proofs.run_all.Reads as run-all-reads
-use Rattle.stepping.proofs.start.Reads as start-reads
+use Rattle.stepping.proofs.steps.run_all.Reads as run-all-reads
+use Rattle.stepping.proofs.plan.start.Reads as start-reads
 
 has-room-requires : tie.Need-has-room-requires
 has-room-requires c κs = search needs
