@@ -1,5 +1,4 @@
 -- What a run says, told in numbers: refused, every lent list is as it was; accepted, the record lists show the bench's threads. Assumes nothing.
---   in-numbers      an answer that a fit gives, told in numbers, is what the fit gives in numbers
 --   rooms           an accepted run has few threads, and room for each in every record list
 --   tells-refused   what a refused run tells
 --   tells-ran       what an accepted run tells
@@ -36,7 +35,7 @@ use Rattle.run.proofs.OnlyLaws.{Says, core-lists}
 use Rattle.run.proofs.ShownLaws.{tab-map}
 use Rattle.outside.specs.declared.RunAnswer.{RunAnswer}
 use Rattle.outside.specs.Outside.{runNumbers, nothing, lower, RunTells}
-use Rattle.outside.specs.RecordTwin.{codeAt, numberAt, endAt}
+use Rattle.outside.specs.RecordTwin.{Rooms, Shows}
 
 -- ---- answers in numbers
 
@@ -58,13 +57,6 @@ least-low a b c n h =
     let k = lower-low (lower a b) c n h in
     let j = lower-low a b n (k .0) in
     (j .0, j .1, k .1)
-
--- few threads, and room for each in the record lists
-pub record Rooms (threads : ℕ) (ps : List ℕ) (ns : List ℤ) (es : List ℕ) : Type 0 where
-  pub most : threads ≤ 16
-  pub phases : threads ≤ length ps
-  pub numbers : threads ≤ length ns
-  pub ends : threads ≤ length es
 
 -- for how many records the three lists have room
 abbrev pub room : List ℕ → List ℤ → List ℕ → ℕ
@@ -138,16 +130,12 @@ module _ (i : Input) (l : Lists) (ps : List ℕ) (ns : List ℤ) (es : List ℕ)
           let k = least-low (length ps) (length ns) (length es) (i .threads) (fit-rooms i l free passes .records) in
           record { most = fit-passed i l free passes .threads-most; phases = k .0; numbers = k .1; ends = k .2 }
 
-      pub tells-ran : (a : RunAnswer) (ps′ : List ℕ) (ns′ : List ℤ) (es′ : List ℕ) → a ≡ runNumbers (0, 0) s
-          → ps′ ≡ tab (i .threads) (codeAt (last .records)) ++ drop (i .threads) ps
-          → ns′ ≡ tab (i .threads) (numberAt (last .records)) ++ drop (i .threads) ns
-          → es′ ≡ tab (i .threads) (endAt (last .records)) ++ drop (i .threads) es
-          → RunTells i l ps ns es m ps′ ns′ es′ a
-      tells-ran a ps′ ns′ es′ told p n d =
+      pub tells-ran : (a : RunAnswer) (ps′ : List ℕ) (ns′ : List ℤ) (es′ : List ℕ) → a ≡ runNumbers (0, 0) s → Shows (last .records) ps ns es (i .threads) ps′ ns′ es′ → RunTells i l ps ns es m ps′ ns′ es′ a
+      tells-ran a ps′ ns′ es′ told shows =
           record {
             answer = answers a (told ∙ ap outcomeNumbers (sym e));
             lists = core-lists i l free (record { final = last; lists = m }) says;
-            phases = p ∙ over-threads passes (λ (x : Phase). phaseTold x .0) (last .records) ps (says .records);
-            numbers = n ∙ over-threads passes (λ (x : Phase). phaseTold x .1) (last .records) ns (says .records);
-            ends = d ∙ over-threads passes (λ (x : Phase). phaseTold x .2) (last .records) es (says .records);
+            phases = shows .phases .entries ∙ over-threads passes (λ (x : Phase). phaseTold x .0) (last .records) ps (says .records);
+            numbers = shows .numbers .entries ∙ over-threads passes (λ (x : Phase). phaseTold x .1) (last .records) ns (says .records);
+            ends = shows .ends .entries ∙ over-threads passes (λ (x : Phase). phaseTold x .2) (last .records) es (says .records);
           }

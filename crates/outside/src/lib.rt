@@ -143,9 +143,7 @@ pub extern "C" fn pollenloom_run(
     match outcome {
         Outcome::Refused(r) => refuse(r),
         Outcome::Ran(s) => {
-            records::show_codes(shown, threads, phases);
-            records::show_numbers(shown, threads, numbers);
-            records::show_ends(shown, threads, ends);
+            records::show_records(shown, threads, phases, numbers, ends);
             accept(s)
         }
     }

@@ -5,7 +5,7 @@ use lib.IntN.{ℤ}
 use Rattle.limits.specs.Operations.{Input, inputOf}
 use Rattle.run.specs.Run.{Lists, listsOf}
 use Rattle.run.proofs.OnlyLaws.{Says}
-use Rattle.outside.proofs.OutsideLaws.{room, Rooms, rooms, tells-refused, tells-ran}
+use Rattle.outside.proofs.OutsideLaws.{room, rooms, tells-refused, tells-ran}
 use borrow.Author.Needs.{needs}
 use Rattle.outside.proofs.pollenloom_run.Statement.{statement}
 use Rattle.outside.proofs.pollenloom_run.Tie as tie
@@ -36,11 +36,9 @@ module _ (s : tie.After-run-core) where
   says : Says i l (room ps ns es) (record { final = s .run-core .result; lists = m })
   says = rw (s .before .before .before .before .before .before .shortest .ensures) at (s .run-core .ensures)
 
--- accepted: the three record lists have room
-has-room : (k : tie.After-known-told2) → let s = k .before .before .before .before .before .before .before .before .before .before .before .before in Rooms (i s .threads) (ps s) (ns s) (es s)
-has-room k =
-    let s = k .before .before .before .before .before .before .before .before .before .before .before .before in
-    rooms (i s) (l s) (ps s) (ns s) (es s) (m s) (s .run-core .result) (says s) (k .before .outcome2 .given .0 .0) (k .before .outcome2 .given .1)
+-- the run that an accepted outcome came from
+abbrev ran : tie.After-outcome2 → tie.After-run-core
+ran c = c .before .before .before .before .before .before .before .before .before .before .before
 
 shortest-requires : tie.Need-shortest-requires
 shortest-requires c κs = search needs
@@ -57,14 +55,10 @@ refuse-requires c κs = search needs
 enum-known-outcome-2 : tie.Need-enum-known-outcome-2
 enum-known-outcome-2 c = search needs
 
-show-codes-requires : tie.Need-show-codes-requires
-show-codes-requires c κs = (has-room (c .before) .most, has-room (c .before) .phases)
-
-show-numbers-requires : tie.Need-show-numbers-requires
-show-numbers-requires c κs = (has-room (c .before .before .before .before .before) .most, has-room (c .before .before .before .before .before) .numbers)
-
-show-ends-requires : tie.Need-show-ends-requires
-show-ends-requires c κs = (has-room (c .before .before .before .before .before .before .before .before) .most, has-room (c .before .before .before .before .before .before .before .before) .ends)
+show-records-requires : tie.Need-show-records-requires
+show-records-requires c κs =
+    let k = c .before .before .before .before in
+    rooms (i (ran k)) (l (ran k)) _ _ _ _ _ (says (ran k)) _ (k .outcome2 .given .1)
 
 accept-requires : tie.Need-accept-requires
 accept-requires c κs = search needs
@@ -87,11 +81,10 @@ same-length-5 c = search needs
 returns : tie.Need-returns
 returns c =
     let s = c .before .before .before .before .before .before .before .before .before .before .before .before .before in
-    tells-refused (i s) (l s) (ps s) (ns s) (es s) (m s) (s .run-core .result) (says s) (c .before .before .outcome .given .0 .0) (c .before .before .outcome .given .1)
-    (c .refuse .result) (c .refuse .ensures)
+    tells-refused _ _ _ _ _ _ _ (says s) _ (c .before .before .outcome .given .1) _ (c .refuse .ensures)
 
 same-length-6 : tie.Need-same-length-6
-same-length-6 c = c .before .before .before .before .before .before .before .before .before .before .before .before .before .before .before .before .before .before .before .before .before .before .before .codes .given
+same-length-6 c = search needs
 
 same-length-7 : tie.Need-same-length-7
 same-length-7 c = search needs
@@ -116,9 +109,8 @@ same-length-13 c = search needs
 
 returns-2 : tie.Need-returns-2
 returns-2 c =
-    let s = c .before .before .before .before .before .before .before .before .before .before .before .before .before .before .before .before .before .before .before .before .before .before .before .before in
-    tells-ran (i s) (l s) (ps s) (ns s) (es s) (m s) (s .run-core .result) (says s) (c .before .before .before .before .before .before .before .before .before .before .before .before .before .outcome2 .given .0 .0) (c .before .before .before .before .before .before .before .before .before .before .before .before .before .outcome2 .given .1)
-    (c .accept .result) _ _ _ (c .accept .ensures) (c .before .before .before .before .before .before .before .before .before .before .show-codes .ensures) (c .before .before .before .before .before .before .show-numbers .ensures) (c .before .before .before .show-ends .ensures)
+    let k = c .before .before .before .before .before .before .before .before .before .before .before in
+    tells-ran _ _ _ _ _ _ _ (says (ran k)) _ (k .outcome2 .given .1) _ _ _ _ (c .accept .ensures) (c .before .before .before .before .before .before .show-records .ensures)
 
 pub pollenloom-run-spec : {M : Type 1} → statement M
 pollenloom-run-spec =
@@ -129,9 +121,7 @@ pollenloom-run-spec =
     enum-known-outcome
     refuse-requires
     enum-known-outcome-2
-    show-codes-requires
-    show-numbers-requires
-    show-ends-requires
+    show-records-requires
     accept-requires
     same-length
     same-length-2

@@ -1,6 +1,5 @@
 -- `pollenloom_list` meets its contract: the answer of the listing, in numbers. Assumes nothing.
 use mathlib.Core.Path.{sym, ap}
-use Rattle.limits.specs.Operations.{inputOf}
 use Rattle.outside.proofs.TextLaws.{listedNumbers, tells-listed}
 use borrow.Author.Needs.{needs}
 use Rattle.outside.proofs.texts.pollenloom_list.Statement.{statement}
@@ -25,19 +24,13 @@ same-length : tie.Need-same-length
 same-length c = search needs
 
 returns : tie.Need-returns
-returns c =
-    let q = c .before .before .before .before .before .list-run in
-    let a = c .before .before .before .before .before .before .before .before .before .before .before .args in
-    tells-listed (inputOf (a .threads) (a .slots) (a .thread .now) (a .kind .now) (a .sample .now) (a .schedule .now)) (a .text .now) _ (q .result) _ (q .ensures) (ap listedNumbers (sym (c .before .listed .given .1)))
+returns c = tells-listed _ _ _ _ _ (c .before .before .before .before .before .list-run .ensures) (ap listedNumbers (sym (c .before .listed .given .1)))
 
 same-length-2 : tie.Need-same-length-2
 same-length-2 c = search needs
 
 returns-2 : tie.Need-returns-2
-returns-2 c =
-    let q = c .before .before .before .before .before .before .before .list-run in
-    let a = c .before .before .before .before .before .before .before .before .before .before .before .before .before .args in
-    tells-listed (inputOf (a .threads) (a .slots) (a .thread .now) (a .kind .now) (a .sample .now) (a .schedule .now)) (a .text .now) _ (q .result) _ (q .ensures) (rw (c .before .number .ensures, c .detail .ensures) (ap listedNumbers (sym (c .before .before .before .listed2 .given .1))))
+returns-2 c = tells-listed _ _ _ _ _ (c .before .before .before .before .before .before .before .list-run .ensures) (rw (c .before .number .ensures, c .detail .ensures) (ap listedNumbers (sym (c .before .before .before .listed2 .given .1))))
 
 pub pollenloom-list-spec : {M : Type 1} → statement M
 pollenloom-list-spec =

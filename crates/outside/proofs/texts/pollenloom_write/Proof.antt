@@ -1,6 +1,5 @@
 -- `pollenloom_write` meets its contract: the writer's answer, in numbers. Assumes nothing.
 use mathlib.Core.Path.{sym, ap}
-use Rattle.limits.specs.Operations.{inputOf}
 use Rattle.outside.proofs.TextLaws.{writtenNumbers, tells-written}
 use borrow.Author.Needs.{needs}
 use Rattle.outside.proofs.texts.pollenloom_write.Statement.{statement}
@@ -25,19 +24,13 @@ same-length : tie.Need-same-length
 same-length c = search needs
 
 returns : tie.Need-returns
-returns c =
-    let q = c .before .before .before .before .before .write-run in
-    let a = c .before .before .before .before .before .before .before .before .before .before .before .args in
-    tells-written (inputOf (a .threads) (a .slots) (a .thread .now) (a .kind .now) (a .sample .now) (a .schedule .now)) (a .text .now) _ (q .result) _ (q .ensures) (ap writtenNumbers (sym (c .before .made .given .1)))
+returns c = tells-written _ _ _ _ _ (c .before .before .before .before .before .write-run .ensures) (ap writtenNumbers (sym (c .before .made .given .1)))
 
 same-length-2 : tie.Need-same-length-2
 same-length-2 c = search needs
 
 returns-2 : tie.Need-returns-2
-returns-2 c =
-    let q = c .before .before .before .before .before .before .before .write-run in
-    let a = c .before .before .before .before .before .before .before .before .before .before .before .before .before .args in
-    tells-written (inputOf (a .threads) (a .slots) (a .thread .now) (a .kind .now) (a .sample .now) (a .schedule .now)) (a .text .now) _ (q .result) _ (q .ensures) (rw (c .before .number .ensures, c .detail .ensures) (ap writtenNumbers (sym (c .before .before .before .made2 .given .1))))
+returns-2 c = tells-written _ _ _ _ _ (c .before .before .before .before .before .before .before .write-run .ensures) (rw (c .before .number .ensures, c .detail .ensures) (ap writtenNumbers (sym (c .before .before .before .made2 .given .1))))
 
 pub pollenloom-write-spec : {M : Type 1} → statement M
 pollenloom-write-spec =
