@@ -1,14 +1,32 @@
 // Reads a run file on standard input and writes its listing, or the one line of its refusal: `answer_text` of the bytes that were read.
-use libc::{STDIN_FILENO, STDOUT_FILENO};
+#![tactic(auto)]
+ghost use Rattle.std.specs.Prelude.{◌≤◌, length, IfOk};
+
 use listing::Listing;
+use std::io::{self, Read, Write};
+
+// Fills a text from its start until it is full or the input ends, and gives how many bytes were read.
+fn read_full<R: Read>(input: &mut R, text: &mut [u8]) -> io::Result<usize>
+    ensures { IfOk result (λ n. n ≤ length text.new) }
+{
+    let mut done = 0;
+    while done < text.len() {
+        let n = input.read(&mut text[done..])?;
+        if n == 0 {
+            break;
+        }
+        done += n;
+    }
+    Ok(done)
+}
 
 // One byte more is read than a run file may have, so that too long a text is seen; 12,288 bytes are room for every answer.
-fn main() {
+fn main(rt: HostRuntime) -> io::Result<()> {
     let mut text = [0u8; 65537];
-    let n = io::read_full(STDIN_FILENO, &mut text);
+    let n = read_full(&mut rt.stdin(), &mut text)?;
     let mut out = [0u8; 12288];
     let Listing::Bytes(m) = answer::answer(&text[..n], &mut out) else {
-        return;
+        return Ok(());
     };
-    io::write_all(STDOUT_FILENO, &out[..m]);
+    io::writer(&rt).write_all(&out[..m])
 }

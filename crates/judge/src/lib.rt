@@ -11,7 +11,7 @@ mod play;
 mod standing;
 
 // The verdict on an order, or why the rest of the input is refused.
-#[derive(Drop)]
+#[derive(Clone, Copy)]
 pub enum Judged {
     Says(Verdict),
     Refused(Refusal),
@@ -19,14 +19,14 @@ pub enum Judged {
 
 // How far a history was read: `end` is the lowest position of an event that cannot stand, or the number of events;
 // `marks` has, at the code of each event read, one more than its position, and 0 elsewhere.
-#[derive(Drop)]
+#[derive(Clone, Copy)]
 pub(crate) struct Reading {
     pub(crate) end: usize,
     pub(crate) marks: [usize; 256],
 }
 
 // A plain queue of samples, which stand from `front` on.
-#[derive(Drop)]
+#[derive(Clone, Copy)]
 pub(crate) struct Queue {
     pub(crate) slots: [i32; 128],
     pub(crate) front: usize,

@@ -8,7 +8,7 @@ ghost use Rattle.limits.specs.Refusals.{refusal_told, within, is_zero, together,
 ghost use Rattle.limits.specs.Parts.{stray_at, table_refusal, schedule_refusal};
 
 // Why an input is refused; a place where the document asks for one.
-#[derive(Drop)]
+#[derive(Clone, Copy)]
 pub enum Refusal {
     Threads,
     Slots,
@@ -25,14 +25,14 @@ pub enum Refusal {
 }
 
 // Whether an input may go on.
-#[derive(Drop)]
+#[derive(Clone, Copy)]
 pub enum Fit {
     Pass,
     Refused(Refusal),
 }
 
 // Where a search ended.
-#[derive(Drop)]
+#[derive(Clone, Copy)]
 pub enum Place {
     At(usize),
     Nowhere,

@@ -3,7 +3,7 @@ ghost use Rattle.std.specs.Prelude.{◌≡◌};
 ghost use Rattle.linear.specs.Numbers.{verdict_number};
 
 // What the judge says of an order: that it is a linearization, or the first fault of the whole order.
-#[derive(Drop)]
+#[derive(Clone, Copy)]
 pub enum Verdict {
     Linear,
     NoOperation,

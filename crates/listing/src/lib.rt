@@ -15,7 +15,7 @@ use run::{Outcome, Summary};
 pub const ROOM: usize = 12288;
 
 // How many bytes were written, or why none was.
-#[derive(Drop)]
+#[derive(Clone, Copy)]
 pub enum Listing {
     Bytes(usize),
     Refused(Refusal),

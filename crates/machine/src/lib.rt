@@ -1,7 +1,7 @@
 // What the bench shows of a thread. Definitions of the bench and its steps, and their laws, stand in specs/ and proofs/.
 
 // A thread's phase, with its number where it has one: the slot reserved; the next slot of a pass, and the pass's end; the sample found.
-#[derive(Drop)]
+#[derive(Clone, Copy)]
 pub enum Phase {
     Rest,
     CalledPut,
@@ -13,7 +13,7 @@ pub enum Phase {
 }
 
 // A thread at the end of a run.
-#[derive(Drop)]
+#[derive(Clone, Copy)]
 pub struct ThreadRecord {
     pub phase: Phase,
 }

@@ -7,21 +7,21 @@ ghost use Rattle.numerals.specs.Reading.{digits_of, number_of, sample_of};
 ghost use Rattle.numerals.specs.Places.{after, Put};
 
 // The number that a text writes in decimal digits.
-#[derive(Drop)]
+#[derive(Clone, Copy)]
 pub enum Digits {
     Value(u64),
     Bad,
 }
 
 // A number of 0 to 255.
-#[derive(Drop)]
+#[derive(Clone, Copy)]
 pub enum Number {
     Is(u8),
     Bad,
 }
 
 // A sample.
-#[derive(Drop)]
+#[derive(Clone, Copy)]
 pub enum Sample {
     Is(i32),
     Bad,

@@ -6,7 +6,7 @@ ghost use Rattle.order.specs.Listing.{bare, pairs, rows_fit, listing_answer, lis
 ghost use Rattle.order.specs.Weaving.{part, Later, Ends, Noted, Needs};
 
 // How many entries the order got, or that the rows do not belong together or do not fit.
-#[derive(Drop)]
+#[derive(Clone, Copy)]
 pub enum Listed {
     Done(usize),
     Unfit,

@@ -16,7 +16,7 @@ use run::{Outcome, Summary};
 
 // A run's answer. `refusal` is 0 for an accepted run; otherwise it is the document's number, `detail` its detail, and all else 0.
 #[repr(C)]
-#[derive(Drop)]
+#[derive(Clone, Copy)]
 pub struct RunAnswer {
     pub refusal: usize,
     pub detail: usize,
@@ -33,7 +33,7 @@ pub struct RunAnswer {
 
 // The judge's answer. `refusal` is 0 where there is a verdict; otherwise it is the document's number, `detail` its detail, and `verdict` 0.
 #[repr(C)]
-#[derive(Drop)]
+#[derive(Clone, Copy)]
 pub struct JudgeAnswer {
     pub refusal: usize,
     pub detail: usize,

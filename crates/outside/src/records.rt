@@ -6,7 +6,7 @@ ghost use Rattle.outside.specs.RecordTwin.{Rooms, Shows};
 use machine::{Phase, ThreadRecord};
 
 // The document's code of a phase; its number, 0 where it has none; the end of its pass, 0 where it does not scan.
-#[derive(Drop)]
+#[derive(Clone, Copy)]
 struct Told(u8, i32, u8);
 
 // What a phase shows.

@@ -7,7 +7,7 @@ use runfile::{Read, Written};
 
 // A reading. `refusal` is 0 for a text that is accepted; otherwise it is the document's number, `detail` its detail, and all else 0.
 #[repr(C)]
-#[derive(Drop)]
+#[derive(Clone, Copy)]
 pub struct ReadAnswer {
     pub refusal: usize,
     pub detail: usize,
@@ -19,7 +19,7 @@ pub struct ReadAnswer {
 
 // A text made. `refusal` is 0 for an input that is accepted; otherwise it is the document's number, `detail` its detail, and `bytes` 0.
 #[repr(C)]
-#[derive(Drop)]
+#[derive(Clone, Copy)]
 pub struct TextAnswer {
     pub refusal: usize,
     pub detail: usize,

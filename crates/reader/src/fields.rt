@@ -9,14 +9,14 @@ use numerals::{Number, Sample};
 use runfile::Operation;
 
 // Where a line's next field begins.
-#[derive(Drop)]
+#[derive(Clone, Copy)]
 pub enum Field {
     At(usize),
     Missing,
 }
 
 // A line of a word and a number: the number, and where the next line begins.
-#[derive(Drop)]
+#[derive(Clone, Copy)]
 pub enum Pair {
     Is(u8, usize),
     Bad,

@@ -8,14 +8,14 @@ use limits::Refusal;
 use runfile::Operation;
 
 // The first two lines: threads, slots, and where the third line begins.
-#[derive(Drop)]
+#[derive(Clone, Copy)]
 pub enum Head {
     At(u8, u8, usize),
     Refused(Refusal),
 }
 
 // The operations of a text: how many, and where the line after them begins, with its number.
-#[derive(Drop)]
+#[derive(Clone, Copy)]
 pub struct Ops {
     count: usize,
     place: usize,
@@ -23,14 +23,14 @@ pub struct Ops {
 }
 
 // How many schedule entries a text has.
-#[derive(Drop)]
+#[derive(Clone, Copy)]
 pub enum Steps {
     Done(usize),
     Refused(Refusal),
 }
 
 // Threads, slots, and how many operations and schedule entries a text has.
-#[derive(Drop)]
+#[derive(Clone, Copy)]
 pub enum Parsed {
     File(u8, u8, usize, usize),
     Refused(Refusal),

@@ -9,7 +9,7 @@ use order::Listed;
 use stepping::{Doing, Thread};
 
 // The puts whose samples nobody found, by rising slot.
-#[derive(Drop)]
+#[derive(Clone, Copy)]
 pub(crate) struct Others {
     pub puts: [u8; 64],
     pub len: usize,

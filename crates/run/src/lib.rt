@@ -11,7 +11,7 @@ use machine::{Phase, ThreadRecord};
 use stepping::State;
 
 // Number of events, length of the order, reservation count, and the six counts.
-#[derive(Drop)]
+#[derive(Clone, Copy)]
 pub struct Summary {
     pub events: usize,
     pub order: usize,
@@ -25,14 +25,14 @@ pub struct Summary {
 }
 
 // A run's answer.
-#[derive(Drop)]
+#[derive(Clone, Copy)]
 pub enum Outcome {
     Ran(Summary),
     Refused(Refusal),
 }
 
 // A run's answer, with the thread records by value: the first are those of the threads, the others rest.
-#[derive(Drop)]
+#[derive(Clone, Copy)]
 pub struct Final {
     pub outcome: Outcome,
     pub records: [ThreadRecord; 16],

@@ -12,7 +12,7 @@ mod take;
 use limits::{Fit, Refusal};
 
 // What a thread is doing, and the operation it works on; at rest, the one that it calls next (255 where none is left).
-#[derive(Drop)]
+#[derive(Clone, Copy)]
 pub enum Doing {
     Rest(u8),
     CalledPut(u8),
@@ -23,13 +23,13 @@ pub enum Doing {
     Holding(u8, i32),
 }
 
-#[derive(Drop)]
+#[derive(Clone, Copy)]
 pub struct Thread {
     pub doing: Doing,
 }
 
 // The reservation count, the number of events, and the counts of a run's steps.
-#[derive(Drop)]
+#[derive(Clone, Copy)]
 pub struct Core {
     pub back: usize,
     pub events: usize,
@@ -41,7 +41,7 @@ pub struct Core {
 }
 
 // The whole state that a step takes and gives: flat, so that it moves cheaply. A slot's sample is that of the put that owns it.
-#[derive(Drop)]
+#[derive(Clone, Copy)]
 pub struct State {
     pub threads: [Thread; 16],
     pub back: usize,
@@ -56,14 +56,14 @@ pub struct State {
 }
 
 // A thread and the counts after its step.
-#[derive(Drop)]
+#[derive(Clone, Copy)]
 pub struct Moved {
     pub core: Core,
     pub thread: Thread,
 }
 
 // Whether the input was played, and the state at its end.
-#[derive(Drop)]
+#[derive(Clone, Copy)]
 pub struct Played {
     pub fit: Fit,
     pub state: State,

@@ -6,7 +6,7 @@ ghost use Rattle.stepping.specs.Twins.{start_state};
 use crate::{Doing, State, Thread};
 
 // Each thread's first operation, and after each operation the next one of its thread (255 where none is left).
-#[derive(Drop)]
+#[derive(Clone, Copy)]
 pub(crate) struct Plan {
     pub first: [u8; 16],
     pub next: [u8; 128],
