@@ -2,7 +2,7 @@
  * Pollenloom for programs in C: threads that put samples into one slot array and take them out, one atomic action at a time, and a
  * judge of the orders that anyone proposes for such a history. The words and numbers are those of document 01.
  *
- * Link with target/staticlib/liboutside.a (x86-64 Linux), which `rt staticlib outside` proves and writes. Each function here is
+ * Link with target/staticlib/liboutside.a (x86-64 Linux), which `tests/build outside` proves and writes. Each function here is
  * proved to answer every input as its comment says; crates/outside/specs/Outside.antt and Texts.antt are the exact statement.
  *
  * How a list is passed

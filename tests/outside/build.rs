@@ -1,4 +1,4 @@
-//! Links the archive that `rt staticlib outside` writes.
+//! Links the archive that `tests/build outside` writes.
 use std::path::Path;
 
 fn main() {
