@@ -1,4 +1,6 @@
 // Plays an input: the refusals, then the schedule, step by step, from a bench on which nothing moved.
+#![tactic(auto)]
+
 ghost use Rattle.std.specs.Prelude.{◌≡◌, ◌≤◌};
 ghost use Rattle.stepping.specs.Twins.{world_of, Playable, room_in, room_fit, play_world, play_run, idle_world, play_fit, play_twin};
 
@@ -12,7 +14,7 @@ mod take;
 use limits::{Fit, Refusal};
 
 // What a thread is doing, and the operation it works on; at rest, the one that it calls next (255 where none is left).
-#[derive(Drop)]
+#[derive(Clone, Copy)]
 pub enum Doing {
     Rest(u8),
     CalledPut(u8),
@@ -23,13 +25,13 @@ pub enum Doing {
     Holding(u8, i32),
 }
 
-#[derive(Drop)]
+#[derive(Clone, Copy)]
 pub struct Thread {
     pub doing: Doing,
 }
 
 // The reservation count, the number of events, and the counts of a run's steps.
-#[derive(Drop)]
+#[derive(Clone, Copy)]
 pub struct Core {
     pub back: usize,
     pub events: usize,
@@ -122,6 +124,7 @@ fn has_room(roomy: bool, operations: usize, codes: usize, values: usize) -> bool
 }
 
 // Refusals 1 to 9, then the run. `roomy` says whether what the caller lends elsewhere is long enough.
+#[tactic(auto, unfolding(crate::specs::Twins::play_fit, crate::specs::Twins::play_twin))]
 pub fn play(
     threads: usize,
     slots: usize,
