@@ -1,4 +1,4 @@
--- Laws of the twins: equal parts make equal turns and worlds, and a step raises each count by one at most. Assumes nothing.
+-- Laws of the twins: a schedule is played step by step, and a step raises each count by one at most. Assumes nothing.
 use mathlib.Core.Path.{◌≡◌, refl, sym, ap, ◌∙◌, subst}
 use mathlib.Core.Bool.{Bool, true, false, cond}
 use mathlib.Core.List.{List, [], ◌∷◌, ◌++◌, map, append_assoc, append-nil}
@@ -10,8 +10,7 @@ use lib.IntN.{ℤ, pos}
 use lib.ListN.{length, get_or, set, take, drop, drop_of_length-le, length-map}
 use lib.Seq.{drop-cons, drop-length, take-suc, take_all, length-take-le, set_at}
 use borrow.Author.Tests.{ltb-true}
-use Rattle.limits.specs.declared.Refusal.{Refusal}
-use Rattle.limits.specs.declared.Fit.TheVariants.{Pass, Refused}
+use Rattle.limits.specs.declared.Fit.TheVariants.{Pass}
 use Rattle.limits.specs.Operations.{input_of}
 use Rattle.limits.specs.Refusals.{input_refusal}
 use Rattle.limits.proofs.PassLaws.{input_passed, fit_thread}
@@ -19,20 +18,9 @@ use Rattle.stepping.specs.declared.Doing.{Doing}
 use Rattle.stepping.specs.declared.Doing.TheVariants.{Rest, CalledPut, Reserved, Stored, CalledTake, Scanning, Holding}
 use Rattle.stepping.specs.declared.Thread.{Thread}
 use Rattle.stepping.specs.declared.Core.{Core}
-use Rattle.stepping.specs.declared.Moved.{Moved}
 use Rattle.stepping.specs.declared.State.{State}
-use Rattle.stepping.specs.Twins.{Within, turn_of, acted, World, step_world, run_world, resting, moved_of, called_moved, reserved_moved, begun_moved, passed_moved, swapped_moved, swap_more, find_more, bare, get_in, event_more, idle_more, back_more, first_doing, fruitless_more, core_in, start_state, waiting, Playable, room_fit, idle_world, play_run, play_world, play_fit, play_twin}
+use Rattle.stepping.specs.Twins.{Within, acted, World, step_world, run_world, resting, moved_of, called_moved, reserved_moved, begun_moved, passed_moved, swapped_moved, swap_more, find_more, bare, get_in, event_more, idle_more, back_more, first_doing, fruitless_more, core_in, start_state, waiting, Playable}
 use Rattle.stepping.specs.PlanTwin.{plan_one, plan_from}
-
--- a turn is its parts
-pub turn_eq : {m m' : Moved} {cs cs' : List ℕ} {vs vs' : List ℤ} {ms ms' os os' ts ts' ps ps' : List ℕ}
-    → m ≡ m' → cs ≡ cs' → vs ≡ vs' → ms ≡ ms' → os ≡ os' → ts ≡ ts' → ps ≡ ps' → turn_of m cs vs ms os ts ps ≡ turn_of m' cs' vs' ms' os' ts' ps'
-turn_eq p q r s t u v = λ i. turn_of (p i) (q i) (r i) (s i) (t i) (u i) (v i)
-
--- what a thread does decides its step
-pub acted_as : (kind : List ℕ) (sample : List ℤ) (next : List ℕ) (c : Core) (cs : List ℕ) (vs : List ℤ) (ms os ts ps : List ℕ) {p q : Doing}
-    → p ≡ q → acted kind sample next c cs vs ms os ts ps q ≡ acted kind sample next c cs vs ms os ts ps p
-acted_as kind sample next c cs vs ms os ts ps e = ap (acted kind sample next c cs vs ms os ts ps) (sym e)
 
 -- ---- a schedule's steps, one at a time
 
@@ -99,10 +87,6 @@ unfolding step_world
 step_within n kind sample next w t h =
     acted_within n w.core h kind sample next w.codes w.values w.marks w.owners w.takes w.puts (get_or w.threads t resting).doing
 
--- what no count may pass, no smaller bound passes
-pub within_le : (n m : ℕ) (c : Core) → n ≤ m → Within n c → Within m c
-within_le n m c le w = omega arith
-
 -- ---- the plan, one operation more in front
 
 pub plan_next : (thread : List ℕ) (o : ℕ) → 0 < o → o ≤ length thread → plan_one (plan_from o (drop o thread)) (get_or thread (o - 1) 0) (o - 1) ≡ plan_from (o - 1) (drop (o - 1) thread)
@@ -132,26 +116,9 @@ start_next first l t lt ll =
 pub start_end : (first : List ℕ) (l : List Thread) (t : ℕ) → length first ≤ t → length l ≤ t → map waiting (take t first) ++ drop t l ≡ map waiting first
 start_end first l t lt ll = rw (take_all t first lt, drop_of_length-le l ll, append-nil)
 
--- ---- the whole, by what the tests of the input say
+-- ---- the whole
 
-module _ (threads slots : ℕ) (thread kind : List ℕ) (sample : List ℤ) (schedule : List ℕ) (roomy : Bool) (cs : List ℕ) (vs : List ℤ) (ts ps : List ℕ) where
-  pub refused_fit : (r : Refusal) → input_refusal (input_of threads slots thread kind sample schedule) ≡ Refused r → Refused r ≡ play_fit threads slots thread kind sample schedule roomy cs vs
-  unfolding play_fit
-  refused_fit r e = rw e
-
-  pub refused_world : (r : Refusal) → input_refusal (input_of threads slots thread kind sample schedule) ≡ Refused r → idle_world cs vs ts ps ≡ play_twin threads slots thread kind sample schedule roomy cs vs ts ps
-  unfolding play_fit play_twin
-  refused_world r e = rw e
-
-  pub passed_fit : input_refusal (input_of threads slots thread kind sample schedule) ≡ Pass → room_fit roomy thread cs vs ≡ play_fit threads slots thread kind sample schedule roomy cs vs
-  unfolding play_fit
-  passed_fit e = rw e
-
-  pub passed_world : input_refusal (input_of threads slots thread kind sample schedule) ≡ Pass
-      → play_world (room_fit roomy thread cs vs) (play_run thread kind sample schedule cs vs ts ps) (idle_world cs vs ts ps) ≡ play_twin threads slots thread kind sample schedule roomy cs vs ts ps
-  unfolding play_fit play_twin
-  passed_world e = rw e
-
+module _ (threads slots : ℕ) (thread kind : List ℕ) (sample : List ℤ) (schedule : List ℕ) where
   -- what passes 1 to 8 can be played
   pub playable : input_refusal (input_of threads slots thread kind sample schedule) ≡ Pass → Playable thread schedule
   playable e =

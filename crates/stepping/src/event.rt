@@ -6,6 +6,7 @@ use crate::cells::{next_after, note_code, note_value};
 use crate::{Core, Doing, Moved, Thread};
 
 // Phase 0: calls operation o, or idles where o is none.
+#[tactic(auto, unfolding(crate::specs::Twins::called_moved, crate::specs::Twins::called_codes, crate::specs::Twins::called_values))]
 pub(crate) fn call_next(c: Core, o: u8, kind: &[u8], codes: &mut [u16], values: &mut [i32]) -> Moved
     requires { Within 4096 c }
     ensures value { result ≡ called_moved kind.now c o }

@@ -1,4 +1,6 @@
 // Plays an input: the refusals, then the schedule, step by step, from a bench on which nothing moved.
+#![tactic(auto)]
+
 ghost use Rattle.std.specs.Prelude.{◌≡◌, ◌≤◌};
 ghost use Rattle.stepping.specs.Twins.{world_of, Playable, room_in, room_fit, play_world, play_run, idle_world, play_fit, play_twin};
 
@@ -122,6 +124,7 @@ fn has_room(roomy: bool, operations: usize, codes: usize, values: usize) -> bool
 }
 
 // Refusals 1 to 9, then the run. `roomy` says whether what the caller lends elsewhere is long enough.
+#[tactic(auto, unfolding(crate::specs::Twins::play_fit, crate::specs::Twins::play_twin))]
 pub fn play(
     threads: usize,
     slots: usize,

@@ -6,6 +6,7 @@ use crate::cells::put_at;
 use crate::{Core, Doing, Moved, Thread};
 
 // Phase 1: the put gets the reservation count as its slot.
+#[tactic(auto, unfolding(crate::specs::Twins::reserved_moved))]
 pub(crate) fn reserve(c: Core, o: u8, owners: &mut [u8; 64]) -> Moved
     ensures value { result ≡ reserved_moved c o }
     ensures owners_after { owners.new ≡ set_in owners.old c.back o }

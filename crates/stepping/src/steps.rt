@@ -5,6 +5,7 @@ ghost use Rattle.stepping.specs.Twins.{Within, core_in, world_of, turn_of, acted
 use crate::{Core, Doing, Moved, State, Thread, event, put, take};
 
 // The step of a thread, by what it is doing.
+#[tactic(auto, unfolding(crate::specs::Twins::acted))]
 fn act(
     c: Core,
     th: Thread,
@@ -37,6 +38,7 @@ fn act(
 }
 
 // One step of thread t.
+#[tactic(auto, unfolding(crate::specs::Twins::step_world))]
 fn step(
     s: State,
     t: usize,

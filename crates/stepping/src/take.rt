@@ -6,6 +6,7 @@ use crate::cells::{get_at, put_at, sample_of};
 use crate::{Core, Doing, Moved, Thread};
 
 // Phase 4: a pass begins, unless nothing is reserved.
+#[tactic(auto, unfolding(crate::specs::Twins::begun_moved))]
 pub(crate) fn begin(c: Core, o: u8) -> Moved
     requires { Within 4096 c }
     ensures { result ≡ begun_moved c o }
@@ -44,6 +45,7 @@ fn end_pass(c: Core, o: u8) -> Moved
 }
 
 // After a swap that met nothing: the next slot of the pass, or its end.
+#[tactic(auto, unfolding(crate::specs::Twins::passed_moved))]
 fn pass_by(c: Core, slot: u8, end: u8, o: u8) -> Moved
     requires { Within 4097 c }
     ensures { result ≡ passed_moved c slot end o }
@@ -64,6 +66,7 @@ fn pass_by(c: Core, slot: u8, end: u8, o: u8) -> Moved
 }
 
 // Phase 5: empties the slot and looks at what it held.
+#[tactic(auto, unfolding(crate::specs::Twins::swapped_moved, crate::specs::Twins::swapped_marks, crate::specs::Twins::swapped_list))]
 pub(crate) fn swap(
     c: Core,
     slot: u8,
