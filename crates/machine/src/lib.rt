@@ -1,4 +1,5 @@
 // What the bench shows of a thread. Definitions of the bench and its steps, and their laws, stand in specs/ and proofs/.
+#![tactic(auto)]
 
 // A thread's phase, with its number where it has one: the slot reserved; the next slot of a pass, and the pass's end; the sample found.
 #[derive(Clone, Copy)]

@@ -55,21 +55,25 @@ codes_strip (call o ∷ h) = λ i. bare_call (2 * o) o refl i ∷ codes_strip h 
 codes_strip (ret o a ∷ h) = λ i. bare_ret (2 * o + 1) o refl i ∷ codes_strip h i
 
 called_to : (h : List Event) (o : ℕ) → Called h o → Called (map strip h) o
+called_to [] o c = elim c [ ]
 called_to (call p ∷ h) o (inl e) = inl e
 called_to (call p ∷ h) o (inr c) = inr (called_to h o c)
 called_to (ret p a ∷ h) o c = called_to h o c
 
 called_from : (h : List Event) (o : ℕ) → Called (map strip h) o → Called h o
+called_from [] o c = elim c [ ]
 called_from (call p ∷ h) o (inl e) = inl e
 called_from (call p ∷ h) o (inr c) = inr (called_from h o c)
 called_from (ret p a ∷ h) o c = called_from h o c
 
 strip_to : (h : List Event) (a b : ℕ) → Precedes h a b → Precedes (map strip h) a b
+strip_to [] a b p = elim p [ ]
 strip_to (call c ∷ h) a b p = strip_to h a b p
 strip_to (ret c v ∷ h) a b (inl p) = inl (p.0, called_to h b p.1)
 strip_to (ret c v ∷ h) a b (inr p) = inr (strip_to h a b p)
 
 strip_from : (h : List Event) (a b : ℕ) → Precedes (map strip h) a b → Precedes h a b
+strip_from [] a b p = elim p [ ]
 strip_from (call c ∷ h) a b p = strip_from h a b p
 strip_from (ret c v ∷ h) a b (inl p) = inl (p.0, called_from h b p.1)
 strip_from (ret c v ∷ h) a b (inr p) = inr (strip_from h a b p)

@@ -1,4 +1,6 @@
 // The listed order: two rows and their merge. It knows a history and two rows, and nothing of slots and phases.
+#![tactic(auto)]
+
 ghost use Rattle.std.specs.Prelude.{◌≡◌, map, ◌+◌, ◌-◌, ◌≤◌, ◌<◌, length};
 ghost use Rattle.std.proofs.lemmas.List.Edits.{sets};
 ghost use Rattle.order.specs.Order.{merge};
