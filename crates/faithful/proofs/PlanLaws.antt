@@ -1,6 +1,6 @@
 -- The plan's chains are each thread's operations in table order. Assumes nothing.
 --   Planned   of the plan for the operations from k on: its lists are full, and its chain for a thread is that thread's operations from k on
-use mathlib.Core.Path.{◌≡◌, refl, sym, ap, ◌∙◌}
+use mathlib.Core.Path.{◌≡◌, refl, sym, ap, ◌∙◌, subst}
 use mathlib.Core.Logic.{◌≢◌}
 use mathlib.Core.Bool.{Bool, true, false, cond}
 use mathlib.Core.List.{List, [], ◌∷◌}
@@ -64,8 +64,10 @@ module _ (T : Table) (few : T.size ≤ 128) (k m x : ℕ) (small : k < T.size) (
   chain_one : (t : ℕ) → t < 16 → Dec (t ≡ x) → Heads next' T.size (get_or (set first x k) t 0) (own_from T t k (suc m))
   unfolding own_from
   chain_one t lt (yes e) =
-      rw (eq-eqb (T.thread k) t (own ∙ sym e), e, get_or-set_same first x k 0 (omega (arith, h.firsts)))
-      (refl, small, rw (next_same next k (get_or first x 0) h.nexts (omega arith)) (chain_rest x lx))
+      let front : get_or (set first x k) t 0 ≡ k = ap (λ (s : ℕ). get_or (set first x k) s 0) e ∙ get_or-set_same first x k 0 (omega (arith, h.firsts)) in
+      let rest = subst (λ (s : ℕ). Heads next' T.size (get_or first s 0) (own_from T t (suc k) m)) e (chain_rest t lt) in
+      rw (eq-eqb (T.thread k) t (own ∙ sym e), front)
+      (refl, small, rw (next_same next k (get_or first x 0) h.nexts (omega arith)) rest)
   chain_one t lt (no ne) =
       rw (ne_eqb (T.thread k) t (λ e. ne (sym (sym own ∙ e))), get_or-set_other first x t k 0 ne) (chain_rest t lt)
 
