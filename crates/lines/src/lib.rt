@@ -122,7 +122,7 @@ pub fn put_slot(out: &mut [u8], at: usize, i: usize, mark: u8, x: i32) -> usize
 // A phase's word and the number it shows, and the end of the line.
 fn put_phase(out: &mut [u8], at: usize, p: Phase) -> usize
     ensures put { Put out.old at (phase_text p) result out.new }
-    ensures p_len_bound { length (phase_text p) ≤ 20 }
+    ensures short { length (phase_text p) ≤ 20 }
 {
     match p {
         Phase::Rest => put_word(out, at, b"rest\n"),
@@ -141,7 +141,7 @@ fn put_phase(out: &mut [u8], at: usize, p: Phase) -> usize
 // The line of thread t.
 pub fn put_thread(out: &mut [u8], at: usize, t: usize, p: Phase) -> usize
     ensures put { Put out.old at (thread_line t p) result out.new }
-    ensures p_len_bound { length (thread_line t p) ≤ 48 }
+    ensures short { length (thread_line t p) ≤ 48 }
 {
     let number = put_word(out, at, b"thread\t");
     let tab = put_short(out, number, t);
@@ -152,7 +152,7 @@ pub fn put_thread(out: &mut [u8], at: usize, t: usize, p: Phase) -> usize
 // The lines of the six counts.
 pub fn put_counts(out: &mut [u8], at: usize, s: Summary) -> usize
     ensures put { Put out.old at (count_lines s) result out.new }
-    ensures s_len_bound { length (count_lines s) ≤ 222 }
+    ensures short { length (count_lines s) ≤ 222 }
 {
     let idle = put_line(out, at, b"count\tsteps\t", s.steps);
     let stores = put_line(out, idle, b"count\tidle\t", s.idle);
@@ -165,7 +165,7 @@ pub fn put_counts(out: &mut [u8], at: usize, s: Summary) -> usize
 // The line of a refusal, written from the start of out on.
 pub fn put_refusal(out: &mut [u8], r: Refusal) -> usize
     ensures put { Put out.old 0 (refused_line r) result out.new }
-    ensures r_len_bound { length (refused_line r) ≤ 64 }
+    ensures short { length (refused_line r) ≤ 64 }
 {
     let number = put_word(out, 0, b"refused\t");
     let tab = put_short(out, number, limits::number(r) as usize);

@@ -37,7 +37,7 @@ fn put_listing(
 ) -> usize
     requires { Shown s threads slots (length codes.now) (length values.now) (length order.now) (length marks.now) (length held.now) }
     ensures put { Put out.old 0 (listing_by s records threads slots kind.now codes.now values.now order.now marks.now held.now) result out.new }
-    ensures held_len_bound { length (listing_by s records threads slots kind.now codes.now values.now order.now marks.now held.now) ≤ 12288 }
+    ensures short { length (listing_by s records threads slots kind.now codes.now values.now order.now marks.now held.now) ≤ 12288 }
 {
     let first_event = lines::put_line(out, 0, b"back\t", s.back);
     let first_listed = parts::put_events(out, first_event, codes, values, kind, s.events);
@@ -63,7 +63,7 @@ fn fill(
 ) -> Listing
     requires { Shown s threads slots (length codes.now) (length values.now) (length order.now) (length marks.now) (length held.now) }
     ensures text_says { TextSays (listing_by s records threads slots kind.now codes.now values.now order.now marks.now held.now) text.old result text.new }
-    ensures held_len_bound { length (listing_by s records threads slots kind.now codes.now values.now order.now marks.now held.now) ≤ 12288 }
+    ensures short { length (listing_by s records threads slots kind.now codes.now values.now order.now marks.now held.now) ≤ 12288 }
 {
     if text.len() < ROOM {
         let mut none = [0u8; 1];

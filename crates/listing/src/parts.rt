@@ -17,7 +17,7 @@ pub(crate) fn put_events(
 ) -> usize
     requires { Both n 256 (length codes.now) (length values.now) }
     ensures put { Put out.old at (upto (event_at kind.now codes.now values.now) n) result out.new }
-    ensures n_len_bound { length (upto (event_at kind.now codes.now values.now) n) ≤ 31 * n }
+    ensures short { length (upto (event_at kind.now codes.now values.now) n) ≤ 31 * n }
 {
     let mut end = at;
     let mut i: usize = 0;
@@ -32,7 +32,7 @@ pub(crate) fn put_events(
 pub(crate) fn put_order(out: &mut [u8], at: usize, order: &[u8], n: usize) -> usize
     requires { n ≤ length order.now }
     ensures put { Put out.old at (upto (order_at order.now) n) result out.new }
-    ensures n_len_bound { length (upto (order_at order.now) n) ≤ 10 * n }
+    ensures short { length (upto (order_at order.now) n) ≤ 10 * n }
 {
     let mut end = at;
     let mut i: usize = 0;
@@ -47,7 +47,7 @@ pub(crate) fn put_order(out: &mut [u8], at: usize, order: &[u8], n: usize) -> us
 pub(crate) fn put_slots(out: &mut [u8], at: usize, marks: &[u8], held: &[i32], n: usize) -> usize
     requires { Both n 64 (length marks.now) (length held.now) }
     ensures put { Put out.old at (upto (slot_at marks.now held.now) n) result out.new }
-    ensures n_len_bound { length (upto (slot_at marks.now held.now) n) ≤ 20 * n }
+    ensures short { length (upto (slot_at marks.now held.now) n) ≤ 20 * n }
 {
     let mut end = at;
     let mut i: usize = 0;
@@ -62,7 +62,7 @@ pub(crate) fn put_slots(out: &mut [u8], at: usize, marks: &[u8], held: &[i32], n
 pub(crate) fn put_threads(out: &mut [u8], at: usize, records: [ThreadRecord; 16], n: usize) -> usize
     requires { n ≤ 16 }
     ensures put { Put out.old at (upto (thread_at records) n) result out.new }
-    ensures n_len_bound { length (upto (thread_at records) n) ≤ 48 * n }
+    ensures short { length (upto (thread_at records) n) ≤ 48 * n }
 {
     let mut end = at;
     let mut i: usize = 0;

@@ -1,6 +1,6 @@
 -- A run that was refused says so and changes nothing; a run that was played says what the bench after its schedule shows. Assumes nothing.
 use mathlib.Core.Path.{◌≡◌, refl, sym, ap, ◌∙◌, subst}
-use mathlib.Core.Bool.{Bool, true, false, ◌&&◌, and_true, and_false, and_assoc}
+use mathlib.Core.Bool.{Bool, true, false, ◌&&◌, and-true, and-false, and_assoc}
 use mathlib.Core.List.{List, ◌++◌, map}
 use Prim.Native.Nat.{ℕ, ◌+◌, ◌*◌, ◌≤◌, ◌<◌}
 use native.Mathlib.Omega.{arith}
@@ -22,7 +22,7 @@ use Rattle.order.proofs.StoreLaws.{sets_front}
 use Rattle.order.proofs.ListingLaws.{takes_of, puts_of, listed_in_room, listed_length}
 use Rattle.machine.specs.declared.ThreadRecord.{ThreadRecord}
 use Rattle.machine.specs.Bench.{Bench, Slot, Empty, Filled, idler, back, start}
-use Rattle.machine.specs.Shown.{codes, samples, order, mark, held, unfound, records}
+use Rattle.machine.specs.Shown.{codes, order, mark, held, unfound, records}
 use Rattle.machine.proofs.RunLaws.{Run, run_room, workers_length, slots_length, slot_held, history_sound, finds_most, finds_count}
 use Rattle.machine.proofs.CountedLaws.{idle_counted, stores_counted, swaps_counted, finds_counted, fruitless_counted}
 use Rattle.machine.proofs.DemandLaws.{listed_called, run_once}
@@ -42,9 +42,9 @@ use Rattle.run.proofs.ShownLaws.{tab_map, held_as_lem, gathered_unfound}
 -- ---- the same six tests of room, in two orders
 
 room_order : (a b c d e f : Bool) → ((c && (d && (e && f))) && (a && b)) ≡ (a && b && c && d && e && f)
-room_order true true c d e f = and_true (c && (d && (e && f))) ∙ sym (ap (λ x. x && f) (and_assoc c d e) ∙ and_assoc c (d && e) f ∙ ap (λ x. c && x) (and_assoc d e f))
-room_order true false c d e f = and_false (c && (d && (e && f)))
-room_order false b c d e f = and_false (c && (d && (e && f)))
+room_order true true c d e f = and-true (c && (d && (e && f))) ∙ sym (ap (λ x. x && f) (and_assoc c d e) ∙ and_assoc c (d && e) f ∙ ap (λ x. c && x) (and_assoc d e f))
+room_order true false c d e f = and-false (c && (d && (e && f)))
+room_order false b c d e f = and-false (c && (d && (e && f)))
 
 module _ (threads slots : ℕ) (thread kind : List ℕ) (sample : List ℤ) (schedule : List ℕ) (room : ℕ) (cs : List ℕ) (vs : List ℤ) (os ms : List ℕ) (hs : List ℤ) where
   abbrev T : Table

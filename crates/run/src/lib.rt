@@ -1,4 +1,6 @@
 // A table, a number of slots and a schedule go in; the run, or a numbered refusal, comes out.
+#![tactic(auto)]
+
 ghost use Rattle.std.specs.Prelude.{◌≡◌, ◌++◌, length, get_or, take, drop, replicate};
 ghost use Rattle.order.specs.Listing.{listing_answer, listing_after};
 ghost use Rattle.run.specs.Core.{RunSays, rest_record};

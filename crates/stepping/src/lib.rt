@@ -84,8 +84,8 @@ fn play_fit(
     puts: &mut [u8; 64],
 ) -> Played
     requires { Playable thread.now schedule.now }
-    ensures fit_value { result.fit ≡ room_fit roomy thread.now codes.old values.old }
-    ensures puts_after { world_of result.state codes.new values.new takes.new puts.new
+    ensures fit { result.fit ≡ room_fit roomy thread.now codes.old values.old }
+    ensures world_after { world_of result.state codes.new values.new takes.new puts.new
         ≡ play_world (room_fit roomy thread.now codes.old values.old)
         (play_run thread.now kind.now sample.now schedule.now codes.old values.old takes.old puts.old)
         (idle_world codes.old values.old takes.old puts.old) }
@@ -138,8 +138,8 @@ pub fn play(
     takes: &mut [u8; 64],
     puts: &mut [u8; 64],
 ) -> Played
-    ensures fit_value { result.fit ≡ play_fit threads slots thread.now kind.now sample.now schedule.now roomy codes.old values.old }
-    ensures puts_after { world_of result.state codes.new values.new takes.new puts.new
+    ensures fit { result.fit ≡ play_fit threads slots thread.now kind.now sample.now schedule.now roomy codes.old values.old }
+    ensures world_after { world_of result.state codes.new values.new takes.new puts.new
         ≡ play_twin threads slots thread.now kind.now sample.now schedule.now roomy codes.old values.old takes.old puts.old }
 {
     let fit = limits::check_input(threads, slots, thread, kind, sample, schedule);

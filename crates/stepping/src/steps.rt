@@ -110,7 +110,7 @@ pub(crate) fn run_all(
     puts: &mut [u8; 64],
 ) -> State
     requires within { Within 0 (core_in s) }
-    requires schedule_len_bound { (length schedule.now ≤ 4096) × ((k : ℕ) → k < length schedule.now → get_or schedule.now k 0 < 16) }
+    requires schedule_small { (length schedule.now ≤ 4096) × ((k : ℕ) → k < length schedule.now → get_or schedule.now k 0 < 16) }
     ensures { world_of result codes.new values.new takes.new puts.new
         ≡ run_world kind.now sample.now next.now (world_of s codes.old values.old takes.old puts.old) schedule.now }
 {

@@ -9,9 +9,9 @@ use Rattle.stepping.proofs.play_fit.Goals as goal
 pub run_all-end-requires-clause-within : goal.run_all-end-requires-clause-within
 run_all-end-requires-clause-within c = start_within c.start-s.result c.plan_table-p.result.first c.start-s.ensures
 
-pub returns-clause-puts_after : goal.returns-clause-puts_after
+pub returns-clause-world_after : goal.returns-clause-world_after
 unfolding play_run
-returns-clause-puts_after c =
+returns-clause-world_after c =
     let a = c.args in
     let f : room_in a.roomy (length a.thread.now) (length a.codes.now) (length a.values.now) ≡ true = sym c.has_room.ensures ∙ c.if-not-has_room.false in
     rw f (
