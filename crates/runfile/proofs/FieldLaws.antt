@@ -13,7 +13,7 @@ use Rattle.numerals.specs.declared.Sample.{Sample}
 use Rattle.numerals.specs.declared.Sample.TheVariants as S
 use Rattle.numerals.specs.Decimal.{decimal}
 use Rattle.numerals.specs.Samples.{sample_text}
-use Rattle.numerals.specs.Reading.{is_digit_lem, all_digits, number_of, sample_of}
+use Rattle.numerals.specs.Reading.{is_digit, all_digits, number_of, sample_of}
 use Rattle.numerals.proofs.DecimalRound.{all_decimal, digit_of, cond_both}
 use Rattle.numerals.proofs.NumeralRound.{NumberIs, number_is, SampleIs, sample_is}
 use Rattle.runfile.specs.declared.Operation.TheVariants as O
@@ -37,7 +37,7 @@ same_is (c ∷ f) (d ∷ g) e = let p = cond_both (eqb c d) (same f g) e in (λ 
 pub free_digits : (x : ℕ) (s : List ℕ) → x < 48 → all_digits s ≡ true → Free x s
 free_digits x [] l a = tt
 free_digits x (c ∷ s) l a =
-    let p = cond_both (is_digit_lem c) (all_digits s) a in
+    let p = cond_both (is_digit c) (all_digits s) a in
     (ne_eqb c x (λ e. omega (arith, (digit_of c p.0).0)), free_digits x s l p.1)
 
 pub free_decimal : (x n : ℕ) → x < 48 → Free x (decimal n)
