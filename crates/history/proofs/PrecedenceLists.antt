@@ -2,7 +2,7 @@
 use mathlib.Core.Path.{◌≡◌, refl, sym, ap, ◌∙◌, subst}
 use mathlib.Core.Logic.{◌≢◌, ◌⊎◌, inl, inr}
 use mathlib.Core.List.{List, [], ◌∷◌, ◌++◌, map}
-use Prim.Native.Nat.{ℕ, zero, suc, ◌+◌, ◌≤◌, ◌<◌, zero-le}
+use Prim.Native.Nat.{ℕ, zero, suc, ◌≤◌, ◌<◌, zero-le}
 use native.Mathlib.Decide.{ℕ_discrete}
 use native.Mathlib.Nat.{not-suc-le-zero, le_of_suc-le-suc}
 use native.Mathlib.Omega.{arith}
@@ -113,7 +113,7 @@ module _ {A : Type 0} where
 
       go : (a : List A) × (b : List A) × (m ≡ a ++ (x ∷ b)) → ((r : List A) → All (λ y. Mem y r) l → length l ≤ length r) → length (x ∷ l) ≤ length m
       go s ih =
-          let sub' : All (λ y. Mem y (s.0 ++ (x ∷ s.1))) l = rw s.2 at sub.1 in
+          let sub' : All (λ y. Mem y (s.0 ++ (x ∷ s.1))) l = subst (λ (t : List A). All (λ y. Mem y t) l) s.2 sub.1 in
           let le = ih (s.0 ++ s.1) (all_imp₂ (λ y ne k. keep s.0 s.1 y ne (mem_cut s.0 s.1 x y k)) l once.0 sub') in
           omega (arith, ap length s.2, length-append s.0 (x ∷ s.1), length-append s.0 s.1)
 

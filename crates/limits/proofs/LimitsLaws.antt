@@ -52,7 +52,7 @@ lowest_whole p n =
 
 -- a sample of 32 bits comes back from its bits
 pub back32 : (z : ℤ) → mag z < 2 ^ 31 → to_z w32 (of_z w32 z) ≡ z
-back32 z p = to_z-of_z (record { sfits = p })
+back32 z p = to_z-of_z {w = w32} (record { sfits = p })
 
 -- equal bits are equal numbers
 pub same_bits : {a b : ℤ} → SFits w32 a → SFits w32 b → of_z w32 a ≡ of_z w32 b → a ≡ b

@@ -1,4 +1,6 @@
 // Operation lists, the numbers that bound a run, and the refusals that need nothing but a run's input.
+#![tactic(auto)]
+
 ghost use Rattle.std.specs.Prelude.{◌≡◌, true, false, ℕ, ◌+◌, ◌≤◌, ◌<◌, leb, ℤ, pos, length, get_or};
 ghost use Rattle.limits.specs.Lists.{lowest};
 ghost use Rattle.limits.specs.Operations.{input_of, puts_in};
