@@ -9,24 +9,24 @@ use lib.Dec.{leb, ltb, eqb}
 use borrow.Author.Tests.{ltb-true, ltb-false, leb-true, le-leb, eqb-false}
 use Rattle.numerals.specs.declared.Digits.TheVariants.{Value}
 use Rattle.numerals.specs.Decimal.{dec, decimal}
-use Rattle.numerals.specs.Reading.{is_digit_lem, all_digits, value, plain, digits_of}
-use Rattle.numerals.proofs.DigitLaws.{is_digit, plain_more}
+use Rattle.numerals.specs.Reading.{is_digit, all_digits, value, plain, digits_of}
+use Rattle.numerals.proofs.DigitLaws.{is_digit_between, plain_more}
 use Rattle.numerals.proofs.PrintLaws.{decimal_one, decimal_more}
 
 pub cond_both : (b x : Bool) → cond b x false ≡ true → (b ≡ true) × (x ≡ true)
 cond_both true x e = (refl, e)
 cond_both false x e = let z : ◌≡◌ {A = ℕ} 0 1 = cc in absurd (omega arith)
 
-pub digit_of : (c : ℕ) → is_digit_lem c ≡ true → (48 ≤ c) × (c ≤ 57)
+pub digit_of : (c : ℕ) → is_digit c ≡ true → (48 ≤ c) × (c ≤ 57)
 digit_of c e = let p = cond_both (leb 48 c) (leb c 57) e in (leb-true 48 c p.0, leb-true c 57 p.1)
 
 pub value_snoc : (acc : ℕ) (s : List ℕ) (c : ℕ) → value acc (s ++ (c ∷ [])) ≡ value acc s * 10 + (c - 48)
 value_snoc acc [] c = refl
 value_snoc acc (d ∷ s) c = value_snoc (acc * 10 + (d - 48)) s c
 
-pub all_snoc : (s : List ℕ) (c : ℕ) → all_digits s ≡ true → is_digit_lem c ≡ true → all_digits (s ++ (c ∷ [])) ≡ true
+pub all_snoc : (s : List ℕ) (c : ℕ) → all_digits s ≡ true → is_digit c ≡ true → all_digits (s ++ (c ∷ [])) ≡ true
 all_snoc [] c a d = rw d
-all_snoc (x ∷ s) c a d = let p = cond_both (is_digit_lem x) (all_digits s) a in rw p.0 (all_snoc s c p.1 d)
+all_snoc (x ∷ s) c a d = let p = cond_both (is_digit x) (all_digits s) a in rw p.0 (all_snoc s c p.1 d)
 
 pub value_dec : (k n : ℕ) → n ≤ k → value 0 (dec k n) ≡ n
 value_dec zero n h = omega arith
@@ -37,12 +37,12 @@ value_dec (suc k) n h = go (ltb n 10) refl (value_dec k (n / 10) (omega arith))
     go false e ih = rw (e, value_snoc 0 (dec k (n / 10)) (48 + n % 10), ih) (omega arith)
 
 pub all_dec : (k n : ℕ) → n ≤ k → all_digits (dec k n) ≡ true
-all_dec zero n h = rw (is_digit (48 + n) (omega arith) (omega arith))
+all_dec zero n h = rw (is_digit_between (48 + n) (omega arith) (omega arith))
 all_dec (suc k) n h = go (ltb n 10) refl (all_dec k (n / 10) (omega arith))
   where
     go : (b : Bool) → ltb n 10 ≡ b → all_digits (dec k (n / 10)) ≡ true → all_digits (dec (suc k) n) ≡ true
-    go true e ih = rw (e, is_digit (48 + n) (omega arith) (omega (arith, ltb-true n 10 e)))
-    go false e ih = rw e (all_snoc (dec k (n / 10)) (48 + n % 10) ih (is_digit (48 + n % 10) (omega arith) (omega arith)))
+    go true e ih = rw (e, is_digit_between (48 + n) (omega arith) (omega (arith, ltb-true n 10 e)))
+    go false e ih = rw e (all_snoc (dec k (n / 10)) (48 + n % 10) ih (is_digit_between (48 + n % 10) (omega arith) (omega arith)))
 
 pub long_dec : (k n : ℕ) → 0 < length (dec k n)
 long_dec zero n = omega arith
@@ -68,7 +68,7 @@ plain_decimal n = go (ltb n 10) refl
     long l = rw (decimal_more n l, length-append) (omega (arith, long_dec (n / 10) (n / 10)))
 
     go : (b : Bool) → ltb n 10 ≡ b → plain (decimal n) ≡ true
-    go true e = rw (decimal_one n (ltb-true n 10 e), is_digit (48 + n) (omega arith) (omega (arith, ltb-true n 10 e)))
+    go true e = rw (decimal_one n (ltb-true n 10 e), is_digit_between (48 + n) (omega arith) (omega (arith, ltb-true n 10 e)))
     go false e = plain_more (dec n n) (long (ltb-false n 10 e)) (head_dec n n (omega arith) (omega (arith, ltb-false n 10 e))) ∙ all_dec n n (omega arith)
 
 -- reading what was printed gives the number
@@ -79,7 +79,7 @@ read_printed n limit h = rw (plain_decimal n, value_dec n n (omega arith), le-le
 pub more_read : (s p : List ℕ) (acc : ℕ) → 0 < acc → decimal acc ≡ p → all_digits s ≡ true → decimal (value acc s) ≡ p ++ s
 more_read [] p acc h e a = e ∙ sym (append-nil p)
 more_read (c ∷ s) p acc h e a =
-    let q = cond_both (is_digit_lem c) (all_digits s) a in
+    let q = cond_both (is_digit c) (all_digits s) a in
     let d = digit_of c q.0 in
     more_read s (p ++ (c ∷ [])) (acc * 10 + (c - 48)) (omega arith) (next d.0 d.1) q.1 ∙ append_assoc p (c ∷ []) s
   where
@@ -96,7 +96,7 @@ printed_read [] e = let z : ◌≡◌ {A = ℕ} 0 1 = cc in absurd (omega arith)
 printed_read (c ∷ []) e = let d = digit_of c e in decimal_one (0 * 10 + (c - 48)) (omega arith) ∙ ap (λ (x : ℕ). x ∷ []) (omega arith)
 printed_read (c ∷ d ∷ s) e =
     let q = unzero (eqb c 48) (all_digits (c ∷ d ∷ s)) e in
-    let r = cond_both (is_digit_lem c) (all_digits (d ∷ s)) q.1 in
+    let r = cond_both (is_digit c) (all_digits (d ∷ s)) q.1 in
     let w = digit_of c r.0 in
     more_read (d ∷ s) (c ∷ []) (0 * 10 + (c - 48)) (pos w.0 (eqb-false c 48 q.0)) (decimal_one (0 * 10 + (c - 48)) (omega arith) ∙ ap (λ (x : ℕ). x ∷ []) (omega arith)) r.1
   where

@@ -6,14 +6,14 @@ use mathlib.Core.List.{List, [], ◌∷◌}
 use Prim.Native.Nat.{ℕ, ◌+◌, ◌-◌, ◌*◌, ◌≤◌, ◌<◌}
 use native.Mathlib.Omega.{arith}
 use native.Mathlib.Nat.{le_refl}
-use lib.ListN.{length, get_or, drop, drop_of_length-le}
+use lib.ListN.{length, get_or, drop}
 use lib.Seq.{drop-cons}
 use native.Mathlib.Numerals.{add-one}
 use lib.Dec.{leb}
-use borrow.Author.Tests.{le-leb, lt-leb, ne_eqb, eq-eqb, leb-true}
+use borrow.Author.Tests.{le-leb, lt-leb, ne_eqb, leb-true}
 use Rattle.numerals.specs.declared.Digits.{Digits}
 use Rattle.numerals.specs.declared.Digits.TheVariants.{Value, Bad}
-use Rattle.numerals.specs.Reading.{is_digit_lem, all_digits, value, plain, digits_of, number_from, number_of}
+use Rattle.numerals.specs.Reading.{is_digit, all_digits, value, plain, digits_of, number_from, number_of}
 
 abbrev pub judge : ℕ → ℕ → List ℕ → Digits
 judge limit acc s = cond (all_digits s) (cond (leb (value acc s) limit) (Value (value acc s)) Bad) Bad
@@ -22,53 +22,23 @@ pub cond_same : {A : Type 0} (b : Bool) (x : A) → cond b x x ≡ x
 cond_same true x = refl
 cond_same false x = refl
 
-pub is_digit : (c : ℕ) → 48 ≤ c → c ≤ 57 → is_digit_lem c ≡ true
-is_digit c a b = rw (le-leb 48 c a, le-leb c 57 b)
-
-pub low_no_digit : (c : ℕ) → c < 48 → is_digit_lem c ≡ false
-low_no_digit c a = rw (lt-leb 48 c a)
-
-pub high_no_digit : (c : ℕ) → 57 < c → is_digit_lem c ≡ false
-high_no_digit c a = rw (lt-leb c 57 a, cond_same)
+pub is_digit_between : (c : ℕ) → 48 ≤ c → c ≤ 57 → is_digit c ≡ true
+is_digit_between c a b = rw (le-leb 48 c a, le-leb c 57 b)
 
 pub value_ge : (acc : ℕ) (s : List ℕ) → acc ≤ value acc s
 value_ge acc [] = le_refl acc
 value_ge acc (c ∷ s) = omega (arith, value_ge (acc * 10 + (c - 48)) s)
 
 pub judge_digit : (limit acc c : ℕ) (s : List ℕ) → 48 ≤ c → c ≤ 57 → judge limit acc (c ∷ s) ≡ judge limit (acc * 10 + (c - 48)) s
-judge_digit limit acc c s a b = rw (is_digit c a b)
-
-pub judge_no_digit : (limit acc c : ℕ) (s : List ℕ) → is_digit_lem c ≡ false → judge limit acc (c ∷ s) ≡ Bad
-judge_no_digit limit acc c s a = rw a
+judge_digit limit acc c s a b = rw (is_digit_between c a b)
 
 pub judge_over : (limit acc : ℕ) (s : List ℕ) → limit < acc → judge limit acc s ≡ Bad
 judge_over limit acc s a = rw (lt-leb (value acc s) limit (omega (arith, value_ge acc s)), cond_same)
-
-pub plain_one : (s : List ℕ) → length s ≡ 1 → plain s ≡ all_digits s
-plain_one [] e = absurd (omega arith)
-plain_one (c ∷ []) e = sym (cond_one (is_digit_lem c))
-  where
-    cond_one : (b : Bool) → cond b true false ≡ b
-    cond_one true = refl
-    cond_one false = refl
-plain_one (c ∷ d ∷ s) e = absurd (omega arith)
 
 pub plain_more : (s : List ℕ) → 1 < length s → (get_or s 0 0 ≡ 48 → ⊥) → plain s ≡ all_digits s
 plain_more [] l ne = absurd (omega arith)
 plain_more (c ∷ []) l ne = absurd (omega arith)
 plain_more (c ∷ d ∷ s) l ne = rw (ne_eqb c 48 ne)
-
-pub plain_zero_first : (s : List ℕ) → 1 < length s → get_or s 0 0 ≡ 48 → plain s ≡ false
-plain_zero_first [] l e = refl
-plain_zero_first (c ∷ []) l e = absurd (omega arith)
-plain_zero_first (c ∷ d ∷ s) l e = rw (eq-eqb c 48 e)
-
-pub plain_none : (s : List ℕ) → length s ≡ 0 → plain s ≡ false
-plain_none [] e = refl
-plain_none (c ∷ s) e = absurd (omega arith)
-
-pub no_plain : (s : List ℕ) (limit : ℕ) → plain s ≡ false → Bad ≡ digits_of s limit
-no_plain s limit e = rw e
 
 pub from_judge : (s : List ℕ) (limit : ℕ) (r : Digits) → plain s ≡ all_digits s → judge limit 0 s ≡ r → r ≡ digits_of s limit
 from_judge s limit r p j = rw p (sym j)
@@ -77,14 +47,8 @@ module _ (s : List ℕ) (limit acc i : ℕ) (l : i < length s) where
   pub judge_cons : judge limit acc (drop i s) ≡ judge limit acc (get_or s i 0 ∷ drop (i + 1) s)
   judge_cons = rw (add-one, drop-cons s i 0)
 
-  pub bad_at : is_digit_lem (get_or s i 0) ≡ false → judge limit acc (drop i s) ≡ Bad
-  bad_at e = judge_cons ∙ judge_no_digit limit acc (get_or s i 0) (drop (i + 1) s) e
-
   pub next_at : 48 ≤ get_or s i 0 → get_or s i 0 ≤ 57 → judge limit acc (drop i s) ≡ judge limit (acc * 10 + (get_or s i 0 - 48)) (drop (i + 1) s)
   next_at a b = judge_cons ∙ judge_digit limit acc (get_or s i 0) (drop (i + 1) s) a b
-
-pub judge_end : (s : List ℕ) (limit acc i : ℕ) → length s ≤ i → acc ≤ limit → judge limit acc (drop i s) ≡ Value acc
-judge_end s limit acc i l h = rw (drop_of_length-le s l, le-leb acc limit h)
 
 -- a number that was read is within its limit
 pub digits_small : (s : List ℕ) (limit v : ℕ) → Value v ≡ digits_of s limit → v ≤ limit
@@ -96,6 +60,6 @@ digits_small s limit v e = by_cases (plain s) (leb (value 0 s) limit) (value 0 s
     by_cases false q x h k = let z : ◌≡◌ {A = ℕ} 0 1 = cc in absurd (omega arith)
 
 -- a reading of 0 to 255 is one of digits
-pub number_from_lem : (s : List ℕ) → number_from (digits_of s 255) ≡ number_of s
+pub number_from_digits : (s : List ℕ) → number_from (digits_of s 255) ≡ number_of s
 unfolding number_of
-number_from_lem s = refl
+number_from_digits s = refl

@@ -1,5 +1,5 @@
 -- A number or a sample is read back from its text, and its text is the one that was read. Assumes nothing.
---   number-exact, sample-exact
+--   number_exact, sample_exact
 --                        a number is read from a text exactly where it is at most 255 and the text its own; a sample where it fits 32 signed bits
 --   NumberIs, SampleIs   what is known of a text by its reading: it is the text of the number or sample read, which is within its bounds
 use mathlib.Core.Path.{◌≡◌, refl, sym, ◌∙◌, ap, subst}

@@ -14,7 +14,7 @@ use Rattle.numerals.specs.declared.Digits.TheVariants.{Value}
 use Rattle.numerals.specs.declared.Sample.TheVariants.{Is, Bad}
 use Rattle.numerals.specs.Decimal.{decimal}
 use Rattle.numerals.specs.Samples.{sample_text}
-use Rattle.numerals.specs.Reading.{digits_of, sample_of, plus_of, minus_of, negated, is_digit_lem, all_digits}
+use Rattle.numerals.specs.Reading.{digits_of, sample_of, plus_of, minus_of, negated, is_digit, all_digits}
 use mir.Syntax.{w32}
 use mir.Val.{SFits}
 use Rattle.numerals.proofs.PrintLaws.{long_decimal, decimal_short}
@@ -51,7 +51,7 @@ negated_is (suc k) h = refl
 
 first_digit : (s : List ℕ) → 0 < length s → all_digits s ≡ true → get_or s 0 0 ≡ 45 → ⊥
 first_digit [] l a e = omega arith
-first_digit (c ∷ s) l a e = omega (arith, (digit_of c (cond_both (is_digit_lem c) (all_digits s) a).0).0)
+first_digit (c ∷ s) l a e = omega (arith, (digit_of c (cond_both (is_digit c) (all_digits s) a).0).0)
 
 -- reading a printed sample gives it back
 pub sample_round : (z : ℤ) → SFits w32 z → sample_of (sample_text z) ≡ Is z

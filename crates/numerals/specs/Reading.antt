@@ -1,8 +1,8 @@
 -- Nothing here has to be believed: the reading of numbers and samples, computed. That it gives exactly what `decimal` and `sample_text` write, within
 -- its bounds, is proved: `number_exact` and `sample_exact` in proofs/NumeralRound.antt.
---   is_digit_lem, all_digits  a byte from 48 to 57, that is `0` to `9`; a text of such bytes only
---   value acc s          the number that the digits s write after the digits of acc
---   plain s              s writes a number: at least one byte, digits only, and no 0 before others
+--   is_digit, all_digits  a byte from 48 to 57, that is `0` to `9`; a text of such bytes only
+--   value acc s           the number that the digits s write after the digits of acc
+--   plain s               s writes a number: at least one byte, digits only, and no 0 before others
 --   digits_of s limit     the number that the whole of s writes, if it is at most limit
 --   number_of s           the same with limit 255: every number of a run file but a sample
 --   sample_of s           the sample that the whole of s writes
@@ -14,12 +14,12 @@ use Rattle.numerals.specs.declared.Number.TheVariants as N
 use Rattle.numerals.specs.declared.Sample.{Sample}
 use Rattle.numerals.specs.declared.Sample.TheVariants as S
 
-abbrev pub is_digit_lem : ℕ → Bool
-is_digit_lem c = cond (leb 48 c) (leb c 57) false
+abbrev pub is_digit : ℕ → Bool
+is_digit c = cond (leb 48 c) (leb c 57) false
 
 abbrev pub all_digits : List ℕ → Bool
 all_digits [] = true
-all_digits (c ∷ s) = cond (is_digit_lem c) (all_digits s) false
+all_digits (c ∷ s) = cond (is_digit c) (all_digits s) false
 
 abbrev pub value : ℕ → List ℕ → ℕ
 value acc [] = acc
@@ -27,7 +27,7 @@ value acc (c ∷ s) = value (acc * 10 + (c - 48)) s
 
 abbrev pub plain : List ℕ → Bool
 plain [] = false
-plain (c ∷ []) = is_digit_lem c
+plain (c ∷ []) = is_digit c
 plain (c ∷ d ∷ s) = cond (eqb c 48) false (all_digits (c ∷ d ∷ s))
 
 abbrev pub digits_of : List ℕ → ℕ → Digits

@@ -1,4 +1,6 @@
 // Numbers and samples read from a part of a text, and printed straight into a lent text, each digit at its place.
+#![tactic(auto)]
+
 ghost use Rattle.std.specs.Prelude.{◌≡◌, ℕ, ◌+◌, ◌-◌, ◌≤◌, ◌<◌, ℤ, pos, nat_abs, neg_ℤ, length, set};
 ghost use Rattle.std.specs.Int.Signed.{lt_z};
 ghost use Rattle.numerals.specs.Decimal.{decimal};

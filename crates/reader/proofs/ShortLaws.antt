@@ -7,15 +7,15 @@ use lib.ListN.{length, get_or, take, drop, take-append-drop}
 use lib.Seq.{drop-cons, drop-drop}
 use Rattle.numerals.specs.Decimal.{decimal}
 use Rattle.numerals.proofs.PrintLaws.{decimal_one, decimal_more}
-use Rattle.runfile.specs.Spelling.{step_word, pair_line_lem, ended}
+use Rattle.runfile.specs.Spelling.{step_word, pair_line, ended}
 use Rattle.runfile.specs.Reading.{parts}
-use Rattle.runfile.proofs.ReadRound.{pair_line, step_first}
+use Rattle.runfile.proofs.ReadRound.{pair_line_read, step_first}
 use Rattle.reader.specs.declared.fields.Pair.TheVariants as P
 use Rattle.reader.specs.Twins.{LineSays}
 
 -- a text that goes on with the line of a step
-step_line : (s : List ℕ) (a n next : ℕ) → n ≤ 255 → a < next → next ≤ length s → drop a s ≡ ended (pair_line_lem step_word n) (drop next s) → LineSays step_word s a (P.Is n next)
-step_line s a n next h l m e = (pair_line_lem step_word n, (ap (parts 10) e ∙ step_first n (drop next s), (pair_line step_word (refl, (refl, (refl, (refl, tt)))) n h, (l, m))))
+step_line : (s : List ℕ) (a n next : ℕ) → n ≤ 255 → a < next → next ≤ length s → drop a s ≡ ended (pair_line step_word n) (drop next s) → LineSays step_word s a (P.Is n next)
+step_line s a n next h l m e = (pair_line step_word n, (ap (parts 10) e ∙ step_first n (drop next s), (pair_line_read step_word (refl, (refl, (refl, (refl, tt)))) n h, (l, m))))
 
 module _ (s : List ℕ) (a f : ℕ) (at : f ≡ a + 5) (room : 8 ≤ length s - a) (word : take (f - a) (drop a s) ≡ step_word ++ (9 ∷ [])) where
   front : drop a s ≡ step_word ++ (9 ∷ drop f s)

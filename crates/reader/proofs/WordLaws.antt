@@ -24,7 +24,7 @@ use Rattle.runfile.specs.Spelling.{put_word, take_word}
 use Rattle.runfile.specs.Reading.{parts, same, number_after, take_of, put_of, operation_of}
 use Rattle.runfile.specs.Twins.{until, Free}
 use Rattle.reader.specs.Twins.{PassSays, put_in}
-use Rattle.runfile.proofs.FieldLaws.{same_is, sample_tab, parts_cases, number_after_lem}
+use Rattle.runfile.proofs.FieldLaws.{same_is, sample_tab, parts_cases, number_after_word}
 use Rattle.runfile.proofs.PartsLaws.{parts_append, together, together_parts, parts_cut, parts_last}
 
 -- ---- a put's fields
@@ -121,7 +121,7 @@ module _ (s : List ℕ) (a e : ℕ) (ae : a ≤ e) (es : e ≤ length s) where
     pub pair_at : Free 9 w → (f : ℕ) → PassSays a line_at w (F.At f) → number_of (take (e - f) (drop f s)) ≡ number_after w (parts 9 line_at)
     pair_at free f h =
         sym (ap number_of (line_rest (length w + 1) f (omega (arith, h.0))))
-        ∙ sym (number_after_lem w free (drop (length w + 1) line_at))
+        ∙ sym (number_after_word w free (drop (length w + 1) line_at))
         ∙ ap (λ (l : List ℕ). number_after w (parts 9 l)) (sym h.1)
 
     pub pair_inside : (f : ℕ) → PassSays a line_at w (F.At f) → f ≤ e

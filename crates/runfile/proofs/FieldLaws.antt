@@ -2,7 +2,7 @@
 use mathlib.Core.Path.{◌≡◌, refl, sym, ◌∙◌, ap, subst}
 use mathlib.Core.Bool.{Bool, true, false, cond}
 use mathlib.Core.List.{List, [], ◌∷◌, ◌++◌}
-use Prim.Native.Nat.{ℕ, suc, ◌+◌, ◌-◌, ◌<◌}
+use Prim.Native.Nat.{ℕ, suc, ◌<◌}
 use native.Mathlib.Omega.{arith}
 use lib.Dec.{eqb}
 use lib.IntN.{ℤ, pos, negsuc}
@@ -13,7 +13,7 @@ use Rattle.numerals.specs.declared.Sample.{Sample}
 use Rattle.numerals.specs.declared.Sample.TheVariants as S
 use Rattle.numerals.specs.Decimal.{decimal}
 use Rattle.numerals.specs.Samples.{sample_text}
-use Rattle.numerals.specs.Reading.{is_digit_lem, all_digits, number_of, sample_of}
+use Rattle.numerals.specs.Reading.{is_digit, all_digits, number_of, sample_of}
 use Rattle.numerals.proofs.DecimalRound.{all_decimal, digit_of, cond_both}
 use Rattle.numerals.proofs.NumeralRound.{NumberIs, number_is, SampleIs, sample_is}
 use Rattle.runfile.specs.declared.Operation.TheVariants as O
@@ -37,7 +37,7 @@ same_is (c ∷ f) (d ∷ g) e = let p = cond_both (eqb c d) (same f g) e in (λ 
 pub free_digits : (x : ℕ) (s : List ℕ) → x < 48 → all_digits s ≡ true → Free x s
 free_digits x [] l a = tt
 free_digits x (c ∷ s) l a =
-    let p = cond_both (is_digit_lem c) (all_digits s) a in
+    let p = cond_both (is_digit c) (all_digits s) a in
     (ne_eqb c x (λ e. omega (arith, (digit_of c p.0).0)), free_digits x s l p.1)
 
 pub free_decimal : (x n : ℕ) → x < 48 → Free x (decimal n)
@@ -79,12 +79,6 @@ parts_cases P s one more = go (parts 9 s) refl (parts_some 9 s) (together_parts 
     go (p ∷ q ∷ ps) e h t = more p q ps e
 
 -- ---- the number after a word
-module _ (w : List ℕ) (free : Free 9 w) where
-  pub number_after_lem : (rest : List ℕ) → number_after w (parts 9 (w ++ (9 ∷ rest))) ≡ number_of rest
-  number_after_lem rest =
-      ap (number_after w) (parts_append 9 w rest free)
-      ∙ parts_cases (λ ps. number_after w (w ∷ ps) ≡ number_of rest) rest (rw (same_self w)) (λ p q ps e. sym (number_tab rest p q ps e))
-
 pub number_none : (w l : List ℕ) → ((rest : List ℕ) → l ≡ w ++ (9 ∷ rest) → ⊥) → number_after w (parts 9 l) ≡ N.Bad
 number_none w l h = go (parts 9 l) (together_parts 9 l)
   where
@@ -97,6 +91,12 @@ number_none w l h = go (parts 9 l) (together_parts 9 l)
         at true e = absurd (h n (sym t ∙ ap (λ (x : List ℕ). x ++ (9 ∷ n)) (same_is f w e)))
         at false e = refl
     go (f ∷ n ∷ m ∷ ps) t = refl
+
+module _ (w : List ℕ) (free : Free 9 w) where
+  pub number_after_word : (rest : List ℕ) → number_after w (parts 9 (w ++ (9 ∷ rest))) ≡ number_of rest
+  number_after_word rest =
+      ap (number_after w) (parts_append 9 w rest free)
+      ∙ parts_cases (λ ps. number_after w (w ∷ ps) ≡ number_of rest) rest (rw (same_self w)) (λ p q ps e. sym (number_tab rest p q ps e))
 
 -- a line that is a take
 pub op_take : (ps : List (List ℕ)) (t : ℕ) → number_after take_word ps ≡ N.Is t → O.Is t 2 (pos 0) ≡ operation_of ps

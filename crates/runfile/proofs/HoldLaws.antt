@@ -20,7 +20,7 @@ use Rattle.runfile.specs.Reading.{read_of}
 use Rattle.runfile.proofs.InputLaws.{GoodOps, good_ops, GoodSteps}
 use Rattle.runfile.proofs.TextLaws.{fit_thread, AllFit, all_fit}
 use Rattle.runfile.proofs.SpellingLaws.{run_spelled}
-use Rattle.runfile.proofs.ReadRound.{kind_of_lem, Fits, read_text}
+use Rattle.runfile.proofs.ReadRound.{kind_told, Fits, read_text}
 use Rattle.runfile.proofs.TextRound.{text_read, read_fits}
 
 -- ---- one operation
@@ -33,7 +33,7 @@ good_op t k x e f = (omega (arith, fit_thread 256 t k x e), go (eqb k 1) refl)
   where
     go : (b : Bool) → eqb k 1 ≡ b → ((k ≡ 1) × SFits w32 x) ⊎ ((k ≡ 2) × (x ≡ pos 0))
     go true d = inl (eqb-true k 1 d, f)
-    go false d = inr (kind_of_lem 256 t k x e d)
+    go false d = inr (kind_told 256 t k x e d)
 
 -- ---- the lists
 good_held : (ts ks : List ℕ) (xs : List ℤ) → GoodOps 256 ts ks xs → AllFit xs

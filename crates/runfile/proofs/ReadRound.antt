@@ -19,11 +19,11 @@ use Rattle.numerals.proofs.NumeralRound.{number_round}
 use Rattle.limits.specs.Refusals.{is_zero, unfit}
 use Rattle.runfile.specs.declared.Operation.{Operation}
 use Rattle.runfile.specs.declared.Operation.TheVariants as O
-use Rattle.runfile.specs.Spelling.{threads_word, slots_word, put_word, take_word, step_word, fields, pair_line_lem, put_line, op_line, ended, ops_text, steps_text, spelled}
+use Rattle.runfile.specs.Spelling.{threads_word, slots_word, put_word, take_word, step_word, fields, pair_line, put_line, op_line, ended, ops_text, steps_text, spelled}
 use Rattle.runfile.specs.Reading.{parts, number_after, put_of, operation_of, file, add_threads, add_slots, add_op, add_step, or_wrong, or_steps, steps_from, ops_from, slots_then, threads_then, read_of}
 use Rattle.runfile.specs.Twins.{Free}
 use Rattle.runfile.proofs.PartsLaws.{free_append, parts_append, parts_free, parts_some}
-use Rattle.runfile.proofs.FieldLaws.{free_decimal, free_sample, number_after_lem, op_take}
+use Rattle.runfile.proofs.FieldLaws.{free_decimal, free_sample, number_after_word, op_take}
 use Rattle.runfile.proofs.TurnLaws.{steps_turn, ops_turn, slots_turn, threads_turn}
 use Rattle.limits.specs.Operations.{input_of}
 use Rattle.limits.proofs.PassLaws.{Passed}
@@ -31,18 +31,18 @@ use Rattle.runfile.proofs.InputLaws.{GoodOps, GoodSteps, passed_ops, passed_step
 use Rattle.runfile.proofs.TextLaws.{fit_thread, AllFit}
 
 -- ---- one line
-pub pair_line : (w : List ℕ) → Free 9 w → (n : ℕ) → n ≤ 255 → number_after w (parts 9 (pair_line_lem w n)) ≡ N.Is n
-pair_line w free n h = number_after_lem w free (decimal n) ∙ number_round n h
+pub pair_line_read : (w : List ℕ) → Free 9 w → (n : ℕ) → n ≤ 255 → number_after w (parts 9 (pair_line w n)) ≡ N.Is n
+pair_line_read w free n h = number_after_word w free (decimal n) ∙ number_round n h
 
-pub free_pair : (w : List ℕ) → Free 10 w → (n : ℕ) → Free 10 (pair_line_lem w n)
+pub free_pair : (w : List ℕ) → Free 10 w → (n : ℕ) → Free 10 (pair_line w n)
 free_pair w free n = free_append 10 w (9 ∷ decimal n) free (refl, free_decimal 10 n (omega arith))
 
-step_none : (t : ℕ) → operation_of (parts 9 (pair_line_lem step_word t)) ≡ O.Bad
+step_none : (t : ℕ) → operation_of (parts 9 (pair_line step_word t)) ≡ O.Bad
 step_none t = ap operation_of (parts_append 9 step_word (decimal t) (refl, (refl, (refl, (refl, tt)))) ∙ ap (λ (ps : List (List ℕ)). step_word ∷ ps) (parts_free 9 (decimal t) (free_decimal 9 t (omega arith))))
 
 -- an operation that refusal 5 does not name is a put, or a take with sample 0
-pub kind_of_lem : (threads t k : ℕ) (x : ℤ) → unfit threads t k x ≡ false → eqb k 1 ≡ false → (k ≡ 2) × (x ≡ pos 0)
-kind_of_lem threads t k x e d = go (leb threads t) (eqb k 1) (eqb k 2) (is_zero x) refl refl d e
+pub kind_told : (threads t k : ℕ) (x : ℤ) → unfit threads t k x ≡ false → eqb k 1 ≡ false → (k ≡ 2) × (x ≡ pos 0)
+kind_told threads t k x e d = go (leb threads t) (eqb k 1) (eqb k 2) (is_zero x) refl refl d e
   where
     zero_is : (y : ℤ) → is_zero y ≡ true → y ≡ pos 0
     zero_is (pos zero) q = refl
@@ -64,39 +64,39 @@ kind_of_lem threads t k x e d = go (leb threads t) (eqb k 1) (eqb k 2) (is_zero 
     go false false false true p q r s = let z : ◌≡◌ {A = ℕ} 0 1 = cc in absurd (omega arith)
     go false false false false p q r s = let z : ◌≡◌ {A = ℕ} 0 1 = cc in absurd (omega arith)
 
-put_line_lem : (t : ℕ) (x : ℤ) → t ≤ 255 → SFits w32 x → operation_of (parts 9 (put_line t x)) ≡ O.Is t 1 x
-put_line_lem t x h f =
+put_line_read : (t : ℕ) (x : ℤ) → t ≤ 255 → SFits w32 x → operation_of (parts 9 (put_line t x)) ≡ O.Is t 1 x
+put_line_read t x h f =
     ap operation_of (parts_append 9 put_word (fields (decimal t) (sample_text x)) (refl, (refl, (refl, tt)))
     ∙ ap (λ (ps : List (List ℕ)). put_word ∷ ps) (parts_append 9 (decimal t) (sample_text x) (free_decimal 9 t (omega arith)) ∙ ap (λ (ps : List (List ℕ)). decimal t ∷ ps) (parts_free 9 (sample_text x) (free_sample 9 x (omega arith)))))
     ∙ (λ i. put_of (number_round t h i) (sample_round x f i))
 
-op_line_lem : (threads t k : ℕ) (x : ℤ) → threads ≤ 256 → unfit threads t k x ≡ false → SFits w32 x → operation_of (parts 9 (op_line t k x)) ≡ O.Is t k x
-op_line_lem threads t k x h g f = go (eqb k 1) refl
+op_line_read : (threads t k : ℕ) (x : ℤ) → threads ≤ 256 → unfit threads t k x ≡ false → SFits w32 x → operation_of (parts 9 (op_line t k x)) ≡ O.Is t k x
+op_line_read threads t k x h g f = go (eqb k 1) refl
   where
-    go : (b : Bool) → eqb k 1 ≡ b → operation_of (parts 9 (cond b (put_line t x) (pair_line_lem take_word t))) ≡ O.Is t k x
-    go true e = put_line_lem t x (omega (arith, fit_thread threads t k x g)) f ∙ ap (λ (j : ℕ). O.Is t j x) (sym (eqb-true k 1 e))
+    go : (b : Bool) → eqb k 1 ≡ b → operation_of (parts 9 (cond b (put_line t x) (pair_line take_word t))) ≡ O.Is t k x
+    go true e = put_line_read t x (omega (arith, fit_thread threads t k x g)) f ∙ ap (λ (j : ℕ). O.Is t j x) (sym (eqb-true k 1 e))
     go false e =
-        let w = kind_of_lem threads t k x g e in
-        sym (op_take (parts 9 (pair_line_lem take_word t)) t (pair_line take_word (refl, (refl, (refl, (refl, tt)))) t (omega (arith, fit_thread threads t k x g))))
+        let w = kind_told threads t k x g e in
+        sym (op_take (parts 9 (pair_line take_word t)) t (pair_line_read take_word (refl, (refl, (refl, (refl, tt)))) t (omega (arith, fit_thread threads t k x g))))
         ∙ (λ i. O.Is t (sym w.0 i) (sym w.1 i))
 
 pub free_op : (t k : ℕ) (x : ℤ) → Free 10 (op_line t k x)
 free_op t k x = go (eqb k 1)
   where
-    go : (b : Bool) → Free 10 (cond b (put_line t x) (pair_line_lem take_word t))
+    go : (b : Bool) → Free 10 (cond b (put_line t x) (pair_line take_word t))
     go true = (refl, (refl, (refl, (refl, free_append 10 (decimal t) (9 ∷ sample_text x) (free_decimal 10 t (omega arith)) (refl, free_sample 10 x (omega arith))))))
     go false = free_pair take_word (refl, (refl, (refl, (refl, tt)))) t
 
 -- ---- line by line
-pub step_first : (t : ℕ) (rest : List ℕ) → parts 10 (ended (pair_line_lem step_word t) rest) ≡ pair_line_lem step_word t ∷ parts 10 rest
-step_first t rest = parts_append 10 (pair_line_lem step_word t) rest (free_pair step_word (refl, (refl, (refl, (refl, tt)))) t)
+pub step_first : (t : ℕ) (rest : List ℕ) → parts 10 (ended (pair_line step_word t) rest) ≡ pair_line step_word t ∷ parts 10 rest
+step_first t rest = parts_append 10 (pair_line step_word t) rest (free_pair step_word (refl, (refl, (refl, (refl, tt)))) t)
 
 steps_round : (threads : ℕ) → threads ≤ 256 → (k : ℕ) (ss : List ℕ) → GoodSteps threads ss → steps_from k (parts 10 (steps_text ss)) ≡ file 0 0 [] [] [] ss
 steps_round threads h k [] g = refl
 steps_round threads h k (t ∷ ss) g =
     let rest = parts 10 (steps_text ss) in
-    ap (steps_from k) (step_first t (steps_text ss)) ∙ steps_turn k (pair_line_lem step_word t) rest (parts_some 10 (steps_text ss))
-    ∙ ap (λ (r : Number). or_wrong k r (λ t. add_step t (steps_from (suc k) rest))) (pair_line step_word (refl, (refl, (refl, (refl, tt)))) t (omega (arith, g.0)))
+    ap (steps_from k) (step_first t (steps_text ss)) ∙ steps_turn k (pair_line step_word t) rest (parts_some 10 (steps_text ss))
+    ∙ ap (λ (r : Number). or_wrong k r (λ t. add_step t (steps_from (suc k) rest))) (pair_line_read step_word (refl, (refl, (refl, (refl, tt)))) t (omega (arith, g.0)))
     ∙ ap (add_step t) (steps_round threads h (suc k) ss g.1)
 
 -- where only steps are left, the operations have ended
@@ -104,8 +104,8 @@ ops_ended : (k : ℕ) (ss : List ℕ) → ops_from k (parts 10 (steps_text ss)) 
 ops_ended k [] = refl
 ops_ended k (t ∷ ss) =
     let rest = parts 10 (steps_text ss) in
-    ap (ops_from k) (step_first t (steps_text ss)) ∙ ops_turn k (pair_line_lem step_word t) rest (parts_some 10 (steps_text ss))
-    ∙ ap (λ (o : Operation). or_steps o (ops_from (suc k) rest) (steps_from k (pair_line_lem step_word t ∷ rest))) (step_none t)
+    ap (ops_from k) (step_first t (steps_text ss)) ∙ ops_turn k (pair_line step_word t) rest (parts_some 10 (steps_text ss))
+    ∙ ap (λ (o : Operation). or_steps o (ops_from (suc k) rest) (steps_from k (pair_line step_word t ∷ rest))) (step_none t)
     ∙ sym (ap (steps_from k) (step_first t (steps_text ss)))
 
 ops_round : (threads : ℕ) → threads ≤ 256 → (k : ℕ) (ts ks : List ℕ) (xs : List ℤ) (ss : List ℕ) → GoodOps threads ts ks xs → AllFit xs → GoodSteps threads ss
@@ -121,7 +121,7 @@ ops_round threads h k (t ∷ ts) (c ∷ ks) (x ∷ xs) ss g f s =
     let line = op_line t c x in
     ap (λ (l : List ℕ). ops_from k (parts 10 l)) (append_assoc line (10 ∷ ops_text ts ks xs) (steps_text ss))
     ∙ ap (ops_from k) (parts_append 10 line more (free_op t c x)) ∙ ops_turn k line rest (parts_some 10 more)
-    ∙ ap (λ (o : Operation). or_steps o (ops_from (suc k) rest) (steps_from k (line ∷ rest))) (op_line_lem threads t c x h g.0 f.0)
+    ∙ ap (λ (o : Operation). or_steps o (ops_from (suc k) rest) (steps_from k (line ∷ rest))) (op_line_read threads t c x h g.0 f.0)
     ∙ ap (add_op t c x) (ops_round threads h (suc k) ts ks xs ss g.1 f.1 s)
 
 -- numbers that a run file can hold: 0 to 255, samples of 32 signed bits, kinds 1 and 2, no sample but 0 at a take
@@ -138,14 +138,14 @@ pub read_text : {threads slots : ℕ} {thread kind : List ℕ} {sample : List �
 unfolding read_of spelled
 read_text {threads} {slots} {thread} {kind} {sample} {schedule} p =
     let body = ops_text thread kind sample ++ steps_text schedule in
-    let second = ended (pair_line_lem slots_word slots) body in
-    ap threads_then (parts_append 10 (pair_line_lem threads_word threads) second (free_pair threads_word (refl, (refl, (refl, (refl, (refl, (refl, (refl, tt))))))) threads))
-    ∙ threads_turn (pair_line_lem threads_word threads) (parts 10 second) (parts_some 10 second)
-    ∙ ap (λ (r : Number). or_wrong 1 r (λ n. add_threads n (slots_then (parts 10 second)))) (pair_line threads_word (refl, (refl, (refl, (refl, (refl, (refl, (refl, tt))))))) threads p.threads_fit)
+    let second = ended (pair_line slots_word slots) body in
+    ap threads_then (parts_append 10 (pair_line threads_word threads) second (free_pair threads_word (refl, (refl, (refl, (refl, (refl, (refl, (refl, tt))))))) threads))
+    ∙ threads_turn (pair_line threads_word threads) (parts 10 second) (parts_some 10 second)
+    ∙ ap (λ (r : Number). or_wrong 1 r (λ n. add_threads n (slots_then (parts 10 second)))) (pair_line_read threads_word (refl, (refl, (refl, (refl, (refl, (refl, (refl, tt))))))) threads p.threads_fit)
     ∙ ap (add_threads threads)
-    (ap slots_then (parts_append 10 (pair_line_lem slots_word slots) body (free_pair slots_word (refl, (refl, (refl, (refl, (refl, tt))))) slots))
-    ∙ slots_turn (pair_line_lem slots_word slots) (parts 10 body) (parts_some 10 body)
-    ∙ ap (λ (r : Number). or_wrong 2 r (λ n. add_slots n (ops_from 3 (parts 10 body)))) (pair_line slots_word (refl, (refl, (refl, (refl, (refl, tt))))) slots p.slots_fit)
+    (ap slots_then (parts_append 10 (pair_line slots_word slots) body (free_pair slots_word (refl, (refl, (refl, (refl, (refl, tt))))) slots))
+    ∙ slots_turn (pair_line slots_word slots) (parts 10 body) (parts_some 10 body)
+    ∙ ap (λ (r : Number). or_wrong 2 r (λ n. add_slots n (ops_from 3 (parts 10 body)))) (pair_line_read slots_word (refl, (refl, (refl, (refl, (refl, tt))))) slots p.slots_fit)
     ∙ ap (add_slots slots) (ops_round 256 (omega arith) 3 thread kind sample schedule p.ops_fit p.samples_fit p.steps_fit))
 
 -- an input that passes is made of such numbers

@@ -9,7 +9,7 @@ use Rattle.numerals.specs.declared.Number.{Number}
 use Rattle.numerals.specs.declared.Number.TheVariants as N
 use Rattle.runfile.specs.declared.Operation.{Operation}
 use Rattle.runfile.specs.declared.Operation.TheVariants as O
-use Rattle.runfile.specs.Spelling.{threads_word, slots_word, step_word, pair_line_lem, op_line, ended, ops_text, steps_text}
+use Rattle.runfile.specs.Spelling.{threads_word, slots_word, step_word, pair_line, op_line, ended, ops_text, steps_text}
 use Rattle.runfile.specs.Wrong.{wrong}
 use Rattle.runfile.specs.Reading.{parts, number_after, operation_of, add_threads, add_slots, add_step, or_wrong, or_steps, at_end, steps_from, ops_from, slots_then, threads_then}
 use Rattle.runfile.specs.Twins.{Free}
@@ -101,29 +101,29 @@ ops_start (suc i) j k (l ∷ m ∷ ls) h e w = go (operation_of (parts 9 l)) (op
     go O.Bad p ih q = start_steps (suc i) (l ∷ m ∷ ls) (steps_start (suc i) j k (l ∷ m ∷ ls) tt e q)
 
 -- ---- the first two lines
-slots_start : (i k : ℕ) (ps : List (List ℕ)) → Some ps → k ≡ 2 + i → slots_then ps ≡ wrong k → (n : ℕ) × (n ≤ 255) × Start i ps (ended (pair_line_lem slots_word n))
-slots_start zero k ps h e w = (0, omega arith, start_none ps (ended (pair_line_lem slots_word 0)) h)
+slots_start : (i k : ℕ) (ps : List (List ℕ)) → Some ps → k ≡ 2 + i → slots_then ps ≡ wrong k → (n : ℕ) × (n ≤ 255) × Start i ps (ended (pair_line slots_word n))
+slots_start zero k ps h e w = (0, omega arith, start_none ps (ended (pair_line slots_word 0)) h)
 slots_start (suc i) k [] h e w = absurd h
 slots_start (suc i) k (l ∷ []) h e w = absurd (not_here i 2 k e w)
 slots_start (suc i) k (l ∷ m ∷ ls) h e w = go (number_after slots_word (parts 9 l)) (pair_is slots_word l) w
   where
-    go : (r : Number) → PairIs slots_word r l → or_wrong 2 r (λ n. add_slots n (ops_from 3 (m ∷ ls))) ≡ wrong k → (n : ℕ) × (n ≤ 255) × Start (suc i) (l ∷ m ∷ ls) (ended (pair_line_lem slots_word n))
+    go : (r : Number) → PairIs slots_word r l → or_wrong 2 r (λ n. add_slots n (ops_from 3 (m ∷ ls))) ≡ wrong k → (n : ℕ) × (n ≤ 255) × Start (suc i) (l ∷ m ∷ ls) (ended (pair_line slots_word n))
     go (N.Is n) p q =
         let r = ops_start i 3 k (m ∷ ls) tt (omega arith) ((keeps_slots n).at (ops_from 3 (m ∷ ls)) k q) in
-        (n, p.1, start_line i l (pair_line_lem slots_word n) (m ∷ ls) (λ body. body) p.0 (free_pair slots_word (refl, (refl, (refl, (refl, (refl, tt))))) n) r)
+        (n, p.1, start_line i l (pair_line slots_word n) (m ∷ ls) (λ body. body) p.0 (free_pair slots_word (refl, (refl, (refl, (refl, (refl, tt))))) n) r)
     go N.Bad p q = absurd (not_here i 2 k e q)
 
 pub threads_start : (i k : ℕ) (ps : List (List ℕ)) → Some ps → k ≡ 1 + i → threads_then ps ≡ wrong k
-    → (n : ℕ) × (n ≤ 255) × (m : ℕ) × (m ≤ 255) × Start i ps (λ body. ended (pair_line_lem threads_word n) (ended (pair_line_lem slots_word m) body))
-threads_start zero k ps h e w = (0, omega arith, 0, omega arith, start_none ps (λ body. ended (pair_line_lem threads_word 0) (ended (pair_line_lem slots_word 0) body)) h)
+    → (n : ℕ) × (n ≤ 255) × (m : ℕ) × (m ≤ 255) × Start i ps (λ body. ended (pair_line threads_word n) (ended (pair_line slots_word m) body))
+threads_start zero k ps h e w = (0, omega arith, 0, omega arith, start_none ps (λ body. ended (pair_line threads_word 0) (ended (pair_line slots_word 0) body)) h)
 threads_start (suc i) k [] h e w = absurd h
 threads_start (suc i) k (l ∷ []) h e w = absurd (not_here i 1 k e w)
 threads_start (suc i) k (l ∷ m ∷ ls) h e w = go (number_after threads_word (parts 9 l)) (pair_is threads_word l) w
   where
     go : (r : Number) → PairIs threads_word r l → or_wrong 1 r (λ n. add_threads n (slots_then (m ∷ ls))) ≡ wrong k
-        → (n : ℕ) × (n ≤ 255) × (c : ℕ) × (c ≤ 255) × Start (suc i) (l ∷ m ∷ ls) (λ body. ended (pair_line_lem threads_word n) (ended (pair_line_lem slots_word c) body))
+        → (n : ℕ) × (n ≤ 255) × (c : ℕ) × (c ≤ 255) × Start (suc i) (l ∷ m ∷ ls) (λ body. ended (pair_line threads_word n) (ended (pair_line slots_word c) body))
     go (N.Is n) p q =
         let r = slots_start i k (m ∷ ls) tt (omega arith) ((keeps_threads n).at (slots_then (m ∷ ls)) k q) in
         let free = free_pair threads_word (refl, (refl, (refl, (refl, (refl, (refl, (refl, tt))))))) n in
-        (n, p.1, r.0, r.1, start_line i l (pair_line_lem threads_word n) (m ∷ ls) (ended (pair_line_lem slots_word r.0)) p.0 free r.2)
+        (n, p.1, r.0, r.1, start_line i l (pair_line threads_word n) (m ∷ ls) (ended (pair_line slots_word r.0)) p.0 free r.2)
     go N.Bad p q = absurd (not_here i 1 k e q)

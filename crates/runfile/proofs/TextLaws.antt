@@ -3,7 +3,7 @@
 use mathlib.Core.Path.{◌≡◌, refl}
 use mathlib.Core.Bool.{Bool, true, false, not, cond, ◌&&◌, ◌||◌}
 use mathlib.Core.List.{List, [], ◌∷◌}
-use Prim.Native.Nat.{ℕ, suc, ◌-◌, ◌*◌, ◌≤◌, ◌<◌}
+use Prim.Native.Nat.{ℕ, suc, ◌*◌, ◌≤◌, ◌<◌}
 use native.Mathlib.Omega.{arith}
 use lib.Dec.{eqb, leb}
 use borrow.Author.Tests.{leb-false}
@@ -16,7 +16,7 @@ use Rattle.numerals.specs.Samples.{sample_text}
 use Rattle.numerals.proofs.PrintLaws.{decimal_short}
 use Rattle.numerals.proofs.SampleLaws.{sample_short}
 use Rattle.limits.specs.Refusals.{is_zero, unfit}
-use Rattle.runfile.specs.Spelling.{take_word, pair_line_lem, put_line, op_line, ops_text, steps_text, spelled}
+use Rattle.runfile.specs.Spelling.{take_word, pair_line, put_line, op_line, ops_text, steps_text, spelled}
 use Rattle.runfile.specs.RunText.{Fitting}
 use Rattle.limits.specs.Operations.{input_of}
 use Rattle.limits.proofs.PassLaws.{Passed}
@@ -60,7 +60,7 @@ op_short threads t k x h g f =
     let e = sample_short x f in
     go (eqb k 1) d e
   where
-    go : (b : Bool) → length (decimal t) ≤ 2 → length (sample_text x) ≤ 11 → length (cond b (put_line t x) (pair_line_lem take_word t)) ≤ 18
+    go : (b : Bool) → length (decimal t) ≤ 2 → length (sample_text x) ≤ 11 → length (cond b (put_line t x) (pair_line take_word t)) ≤ 18
     go true d e = simp length-append (omega arith)
     go false d e = simp length-append (omega arith)
 

@@ -19,7 +19,7 @@ use Rattle.numerals.proofs.NumeralRound.{NumberIs, number_is, SampleIs, sample_i
 use Rattle.limits.specs.Refusals.{unfit}
 use Rattle.runfile.specs.declared.Operation.{Operation}
 use Rattle.runfile.specs.declared.Operation.TheVariants as O
-use Rattle.runfile.specs.Spelling.{threads_word, slots_word, put_word, take_word, step_word, fields, pair_line_lem, op_line, ended, ops_text, steps_text, spelled}
+use Rattle.runfile.specs.Spelling.{threads_word, slots_word, put_word, take_word, step_word, fields, pair_line, op_line, ended, ops_text, steps_text, spelled}
 use Rattle.runfile.specs.Reading.{parts, same, number_after, take_of, put_of, operation_of, File, file, wrong, add_threads, add_slots, add_step, or_wrong, or_steps, steps_from, ops_from, slots_then, threads_then, read_of}
 use Rattle.runfile.proofs.PartsLaws.{together, together_parts}
 use Rattle.runfile.proofs.FieldLaws.{same_is}
@@ -29,7 +29,7 @@ use Rattle.runfile.proofs.ReadRound.{Fits}
 
 -- ---- one line
 abbrev pub PairIs : List ℕ → Number → List ℕ → Type 0
-PairIs w (N.Is n) l = (pair_line_lem w n ≡ l) × (n ≤ 255)
+PairIs w (N.Is n) l = (pair_line w n ≡ l) × (n ≤ 255)
 PairIs w N.Bad l = Unit {0}
 
 abbrev pub OpIs : Operation → List ℕ → Type 0
@@ -80,11 +80,11 @@ BodyIs (file a b ts ks xs ss) s = (ops_text ts ks xs ++ steps_text ss ≡ s) × 
 BodyIs (wrong k) s = Unit {0}
 
 abbrev SlotsIs : File → List ℕ → Type 0
-SlotsIs (file a b ts ks xs ss) s = (ended (pair_line_lem slots_word b) (ops_text ts ks xs ++ steps_text ss) ≡ s) × ((b ≤ 255) × (GoodOps 256 ts ks xs × (AllFit xs × GoodSteps 256 ss)))
+SlotsIs (file a b ts ks xs ss) s = (ended (pair_line slots_word b) (ops_text ts ks xs ++ steps_text ss) ≡ s) × ((b ≤ 255) × (GoodOps 256 ts ks xs × (AllFit xs × GoodSteps 256 ss)))
 SlotsIs (wrong k) s = Unit {0}
 
 abbrev FileIs : File → List ℕ → Type 0
-FileIs (file a b ts ks xs ss) s = (ended (pair_line_lem threads_word a) (ended (pair_line_lem slots_word b) (ops_text ts ks xs ++ steps_text ss)) ≡ s) × Fits a b ts ks xs ss
+FileIs (file a b ts ks xs ss) s = (ended (pair_line threads_word a) (ended (pair_line slots_word b) (ops_text ts ks xs ++ steps_text ss)) ≡ s) × Fits a b ts ks xs ss
 FileIs (wrong k) s = Unit {0}
 
 at_step : (k : ℕ) (r : Number) (f : File) (l s : List ℕ) → PairIs step_word r l → StepsAre f s → StepsAre (or_wrong k r (λ t. add_step t f)) (ended l s)

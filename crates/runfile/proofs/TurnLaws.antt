@@ -1,7 +1,7 @@
 -- Laws of the reading line by line: what one line that is not the last adds. Assumes nothing.
 use mathlib.Core.Path.{◌≡◌, refl}
 use mathlib.Core.List.{List, [], ◌∷◌}
-use Prim.Native.Nat.{ℕ, suc, ◌-◌}
+use Prim.Native.Nat.{ℕ, suc}
 use Rattle.runfile.specs.Spelling.{threads_word, slots_word, step_word}
 use Rattle.runfile.specs.Reading.{parts, number_after, operation_of, add_threads, add_slots, add_step, or_wrong, or_steps, steps_from, ops_from, slots_then, threads_then}
 use Rattle.runfile.proofs.PartsLaws.{Some}

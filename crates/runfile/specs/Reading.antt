@@ -3,11 +3,11 @@
 --   parts x s       what stands between the bytes x of s, always one part more than there are such bytes. The parts of a text between its line
 --                   feeds are its lines and, last, what stands after the last line feed: nothing may. The parts of a line between its tabs are its fields
 --   same            whether two fields are the same bytes
---   number_after w   the number of a line whose fields are the word w and a number
+--   number_after w  the number of a line whose fields are the word w and a number
 --   operation_of    the operation of a line (thread, kind, sample: 0 for a take), by its fields
 --   threads_then, slots_then, ops_from, steps_from
 --                   the reading from each place of a file on; the numbers say which line comes next. A missing line is wrong where it should have begun
---   read_of          the reading of a whole text
+--   read_of         the reading of a whole text
 use Rattle.std.specs.Prelude.{Bool, true, false, cond, List, [], ◌∷◌, ℕ, suc, eqb, ℤ, pos}
 use Rattle.numerals.specs.Reading.{number_of, sample_of}
 use Rattle.numerals.specs.declared.Number.{Number}

@@ -1,4 +1,6 @@
 // Run files: what their reader and their writer answer. No code of its own: the definitions, and what is claimed of them.
+#![tactic(auto)]
+
 use limits::Refusal;
 
 // A text read: the numbers of threads, slots, operations and schedule entries; or why it is refused.

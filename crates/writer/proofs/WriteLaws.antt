@@ -23,7 +23,7 @@ use Rattle.limits.specs.Operations.{Input, input_of}
 use Rattle.limits.specs.Refusals.{input_refusal}
 use Rattle.runfile.specs.declared.Written.TheVariants as Wr
 use Rattle.runfile.specs.RunText.{Fitting}
-use Rattle.runfile.specs.Spelling.{threads_word, slots_word, put_word, step_word, pair_line_lem, put_line, op_line, ended, ops_text, steps_text, spelled}
+use Rattle.runfile.specs.Spelling.{threads_word, slots_word, put_word, step_word, pair_line, put_line, op_line, ended, ops_text, steps_text, spelled}
 use Rattle.runfile.specs.Answers.{write_fit, WriteSays}
 use Rattle.limits.proofs.PassLaws.{input_passed}
 use Rattle.runfile.proofs.FitLaws.{over_sets}
@@ -34,7 +34,7 @@ use Rattle.runfile.proofs.SpellingLaws.{run_spelled}
 pub ended_then : (l rest : List ℕ) → ended l [] ++ rest ≡ ended l rest
 ended_then l rest = append_assoc l (10 ∷ []) rest
 
-pub pair_text : (w : List ℕ) (n : ℕ) → ((w ++ (9 ∷ [])) ++ decimal n) ++ (10 ∷ []) ≡ ended (pair_line_lem w n) []
+pub pair_text : (w : List ℕ) (n : ℕ) → ((w ++ (9 ∷ [])) ++ decimal n) ++ (10 ∷ []) ≡ ended (pair_line w n) []
 pair_text w n = ap (λ (l : List ℕ). l ++ (10 ∷ [])) (append_assoc w (9 ∷ []) (decimal n))
 
 pub put_text : (t : ℕ) (x : ℤ) → (((put_word ++ (9 ∷ [])) ++ decimal t) ++ (9 ∷ [])) ++ sample_text x ++ (10 ∷ []) ≡ ended (put_line t x) []
@@ -70,10 +70,10 @@ ops_left thread kind sample i hk hx h =
     (λ k. ops_text (drop-cons thread i 0 h k) (drop-cons kind i 0 (omega arith) k) (drop-cons sample i (pos 0) (omega arith) k))
     ∙ ap (λ (n : ℕ). ended (op_line (get_or thread i 0) (get_or kind i 0) (get_or sample i (pos 0))) (ops_text (drop n thread) (drop n kind) (drop n sample))) j
 
-pub steps_left : (schedule : List ℕ) (i : ℕ) → i < length schedule → steps_text (drop i schedule) ≡ ended (pair_line_lem step_word (get_or schedule i 0)) (steps_text (drop (i + 1) schedule))
+pub steps_left : (schedule : List ℕ) (i : ℕ) → i < length schedule → steps_text (drop i schedule) ≡ ended (pair_line step_word (get_or schedule i 0)) (steps_text (drop (i + 1) schedule))
 steps_left schedule i h =
     let j : suc i ≡ i + 1 = omega arith in
-    ap steps_text (drop-cons schedule i 0 h) ∙ ap (λ (n : ℕ). ended (pair_line_lem step_word (get_or schedule i 0)) (steps_text (drop n schedule))) j
+    ap steps_text (drop-cons schedule i 0 h) ∙ ap (λ (n : ℕ). ended (pair_line step_word (get_or schedule i 0)) (steps_text (drop n schedule))) j
 
 pub no_ops_left : (thread kind : List ℕ) (sample : List ℤ) (i : ℕ) → length thread ≤ i → ops_text (drop i thread) (drop i kind) (drop i sample) ≡ []
 no_ops_left thread kind sample i h = ap (λ (t : List ℕ). ops_text t (drop i kind) (drop i sample)) (drop_of_length-le thread h)
@@ -90,12 +90,12 @@ fit_next sample i low here j h = go (ltb j i) refl
     go false e = let q : i ≡ j = omega (arith, ltb-false j i e) in subst (λ (k : ℕ). SFits w32 (get_or sample k (pos 0))) q here
 
 -- ---- the whole text, and the writer's answers
-pub run_text_lem : (threads slots : ℕ) (thread kind : List ℕ) (sample : List ℤ) (schedule : List ℕ)
-    → ((ended (pair_line_lem threads_word threads) [] ++ ended (pair_line_lem slots_word slots) []) ++ ops_text thread kind sample) ++ steps_text schedule ≡ spelled threads slots thread kind sample schedule
+pub run_text_spelled : (threads slots : ℕ) (thread kind : List ℕ) (sample : List ℤ) (schedule : List ℕ)
+    → ((ended (pair_line threads_word threads) [] ++ ended (pair_line slots_word slots) []) ++ ops_text thread kind sample) ++ steps_text schedule ≡ spelled threads slots thread kind sample schedule
 unfolding spelled
-run_text_lem threads slots thread kind sample schedule =
-    let a = pair_line_lem threads_word threads in
-    let b = pair_line_lem slots_word slots in
+run_text_spelled threads slots thread kind sample schedule =
+    let a = pair_line threads_word threads in
+    let b = pair_line slots_word slots in
     let c = ops_text thread kind sample in
     let d = steps_text schedule in
     append_assoc (ended a [] ++ ended b []) c d ∙ append_assoc (ended a []) (ended b []) (c ++ d) ∙ ap (λ (t : List ℕ). ended a [] ++ t) (ended_then b (c ++ d)) ∙ ended_then a (ended b (c ++ d))

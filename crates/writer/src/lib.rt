@@ -3,7 +3,7 @@ ghost use Rattle.std.specs.Prelude.{◌≡◌, [], length};
 ghost use Rattle.limits.specs.Operations.{input_of};
 ghost use Rattle.numerals.specs.Places.{Put};
 ghost use Rattle.runfile.specs.RunText.{Fitting};
-ghost use Rattle.runfile.specs.Spelling.{pair_line_lem, put_line, ended, op_line, ops_text, steps_text, spelled};
+ghost use Rattle.runfile.specs.Spelling.{pair_line, put_line, ended, op_line, ops_text, steps_text, spelled};
 ghost use Rattle.runfile.specs.Answers.{WriteSays};
 
 use limits::{Fit, Refusal};
@@ -11,7 +11,7 @@ use runfile::Written;
 
 // Writes the line of the word w and the number n from at on; gives the place after it.
 pub(crate) fn write_pair(out: &mut [u8], at: usize, w: &[u8], n: usize) -> usize
-    ensures { Put out.old at (ended (pair_line_lem w.now n) []) result out.new }
+    ensures { Put out.old at (ended (pair_line w.now n) []) result out.new }
 {
     let tab = numerals::put_bytes(out, at, w);
     let number = numerals::put_bytes(out, tab, b"\t");

@@ -4,7 +4,7 @@ use mathlib.Core.Path.{◌≡◌, refl, ◌∙◌}
 use Prim.Native.Nat.{◌≤◌, ◌-◌, ◌+◌}
 use native.Mathlib.Omega.{arith}
 use lib.ListN.{length, get_or, drop}
-use Rattle.runfile.specs.Spelling.{step_word, pair_line_lem, steps_text}
+use Rattle.runfile.specs.Spelling.{step_word, pair_line, steps_text}
 use Rattle.writer.proofs.WriteLaws.{Lines, lines_start, lines_next, lines_end, steps_left, no_steps_left}
 use borrow.Author.Rules.{rules}
 use Rattle.writer.proofs.write_steps.Statement.{statement}
@@ -46,7 +46,7 @@ loop-again c =
     let a = c.before.before.before.before.before.before.before.before.before.before.args in
     let w = c.before.before.write-pair in
     let l : length a.out.now ≤ 18446744073709551615 = omega arith in
-    (omega arith, (w.auto.0 ∙ h.invariant.1.0, lines_next (pair_line_lem step_word (get_or a.schedule.now h.i 0)) (steps_text (drop (h.i + 1) a.schedule.now)) l h.invariant.1.1 (steps_left a.schedule.now h.i (omega arith)) w.ensures))
+    (omega arith, (w.auto.0 ∙ h.invariant.1.0, lines_next (pair_line step_word (get_or a.schedule.now h.i 0)) (steps_text (drop (h.i + 1) a.schedule.now)) l h.invariant.1.1 (steps_left a.schedule.now h.i (omega arith)) w.ensures))
 
 same_length : tie.Need-same-length invariant-loop decreases-loop
 same_length c = c.before.loop.invariant.1.0

@@ -3,7 +3,7 @@ use Prim.Native.Nat.{◌≤◌}
 use native.Mathlib.Omega.{arith}
 use lib.ListN.{length}
 use Rattle.numerals.proofs.PrintLaws.{put_then, put_as}
-use Rattle.writer.proofs.WriteLaws.{run_text_lem}
+use Rattle.writer.proofs.WriteLaws.{run_text_spelled}
 use borrow.Author.Rules.{rules}
 use Rattle.writer.proofs.write_text.Statement.{statement}
 use Rattle.writer.proofs.write_text.Tie as tie
@@ -33,7 +33,7 @@ returns : tie.Need-returns
 returns c =
     let a = c.before.before.before.before.before.before.before.before.before.before.before.before.before.before.before.before.before.before.before.before.before.before.args in
     let l : length a.out.now ≤ 18446744073709551615 = omega arith in (
-      put_as (run_text_lem a.threads a.slots a.thread.now a.kind.now a.sample.now a.schedule.now)
+      put_as (run_text_spelled a.threads a.slots a.thread.now a.kind.now a.sample.now a.schedule.now)
           (put_then l (put_then l (put_then l c.before.before.before.before.before.before.before.before.before.before.before.before.before.before.before.write-pair.ensures c.before.before.before.before.before.before.before.before.before.before.write-pair2.ensures) c.before.before.before.before.before.before.write-ops.ensures.0) c.before.before.write-steps.ensures),
       c.before.before.before.before.before.before.write-ops.ensures.1,
     )
