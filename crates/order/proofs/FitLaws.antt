@@ -4,8 +4,8 @@ use mathlib.Core.Bool.{Bool, true, false, cond}
 use mathlib.Core.List.{List}
 use Prim.Native.Nat.{ℕ, ◌+◌, ◌≤◌}
 use native.Mathlib.Omega.{arith}
-use native.Mathlib.Decide.{dec_le, ℕ_discrete}
-use borrow.Author.Tests.{eq-eqb, ne_eqb, le-leb, lt-leb, leb-true}
+use native.Mathlib.Decide.{ℕ_discrete}
+use borrow.Author.Tests.{eq-eqb, ne_eqb, leb-true}
 use lib.Dec.{leb}
 use lib.ListN.{length}
 use lib.Seq.{sets}
@@ -19,15 +19,6 @@ fits_other takes puts others room n = ap (λ (b : Bool). cond b (leb (puts + oth
 -- as many puts as takes: the room decides
 pub fits_same : (takes puts others room : ℕ) → takes ≡ puts → rows_fit takes puts others room ≡ leb (puts + others + takes) room
 fits_same takes puts others room e = ap (λ (b : Bool). cond b (leb (puts + others + takes) room) false) (eq-eqb takes puts e)
-
--- two tests that hold together fail together
-pub leb_alike : (a b c d : ℕ) → (a ≤ b → c ≤ d) → (c ≤ d → a ≤ b) → leb a b ≡ leb c d
-leb_alike a b c d to from = go (dec_le a b) (dec_le c d)
-  where
-    go : Dec (a ≤ b) → Dec (c ≤ d) → leb a b ≡ leb c d
-    go (yes p) q = le-leb a b p ∙ sym (le-leb c d (to p))
-    go (no n) (yes q) = absurd (n (from q))
-    go (no n) (no m) = lt-leb a b (omega arith) ∙ sym (lt-leb c d (omega arith))
 
 -- what rows that fit have
 pub fits_true : (takes puts others room : ℕ) → rows_fit takes puts others room ≡ true → (takes ≡ puts) × (puts + others + takes ≤ room)

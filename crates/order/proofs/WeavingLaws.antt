@@ -1,6 +1,6 @@
 -- Laws of the merge in place. Assumes nothing.
 --   Woven   the takes below i are merged, with the puts that stand before them; the row's rest, from k on, still stands where it stood
-use mathlib.Core.Path.{◌≡◌, refl, sym, ap, ◌∙◌}
+use mathlib.Core.Path.{◌≡◌, sym, ap, ◌∙◌}
 use mathlib.Core.List.{List, [], ◌∷◌, ◌++◌, map, append_assoc}
 use Prim.Native.Nat.{ℕ, suc, ◌+◌, ◌-◌, ◌≤◌, ◌<◌}
 use native.Mathlib.Omega.{arith}
@@ -27,9 +27,6 @@ pub record Woven (h : List Event) (takes puts before : List ℕ) (e : ℕ) (now 
   pub high : k ≤ e
   pub rest : drop k now ≡ drop k before
   pub still : take out now ++ merge h (part k e before) (pairs (drop i takes) (drop i puts)) ≡ merge h (part (length takes) e before) (pairs takes puts)
-
-pub woven_start : (h : List Event) (takes puts before : List ℕ) (e : ℕ) → length takes ≤ e → Woven h takes puts before e before (length takes) 0 0
-woven_start h takes puts before e le = record { long = refl; turns = omega arith; sum = omega arith; low = omega arith; high = le; rest = refl; still = refl }
 
 module _ (h : List Event) (takes puts before : List ℕ) (e : ℕ) (now : List ℕ) (k i out : ℕ) (w : Woven h takes puts before e now k i out) where
   -- the next take goes behind the puts that stand before it; both overwrite only entries that are listed already or free
