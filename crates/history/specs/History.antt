@@ -3,8 +3,8 @@
 --   Event            a call, or a return: a take's with the sample it got, a put's with none
 --   Returned h o     operation o has returned
 --   Precedes h a b   the return of a is earlier than the call of b
---   code_of, beside  the event's code, and the sample beside it
---   event_of, events the events that codes and samples give
+--   code_of, beside   the event's code, and the sample beside it
+--   event_of, events  the events that codes and samples give
 use Rattle.std.specs.Prelude.{◌≡◌, ◌⊎◌, List, [], ◌∷◌, cond, ℕ, ◌+◌, ◌*◌, ◌/◌, ◌%◌, eqb, ℤ, pos}
 use Rattle.std.proofs.Math.Option.{Option, none, some}
 use Rattle.limits.specs.Operations.{Kind, putting, taking, Table}

@@ -5,7 +5,7 @@
 --   lower         the lower of two numbers
 --   RunTells      all that a run says to a caller from outside: from the input i, the lent lists l and three more for the thread records (phase codes,
 --                 phase numbers, ends) to the lists afterwards and the answer; there is room for as many records as the shortest of the three has entries
---   judge_numbers the judge's answer: 0, 0 and the verdict's number; or the refusal's number, its detail, and 0
+--   judge_numbers  the judge's answer: 0, 0 and the verdict's number; or the refusal's number, its detail, and 0
 use Rattle.std.specs.Prelude.{◌≡◌, cond, List, map, ℕ, leb, ℤ, length}
 use Rattle.limits.specs.declared.Fit.{Fit}
 use Rattle.limits.specs.Operations.{Input}
