@@ -1,5 +1,7 @@
 // The lines of a listing, each written straight into a lent text from a place on. Each function gives the place after what it wrote, and counts
 // what would stand past the end without storing it.
+#![tactic(auto)]
+
 ghost use Rattle.std.specs.Prelude.{◌≡◌, List, [], ◌∷◌, ◌++◌, ℕ, ◌≤◌, length, get_or};
 ghost use Rattle.numerals.specs.Decimal.{decimal};
 ghost use Rattle.numerals.specs.Samples.{sample_text};

@@ -1,4 +1,6 @@
 // The listing of a run as bytes, and the one line of a refusal.
+#![tactic(auto)]
+
 ghost use Rattle.std.specs.Prelude.{◌≡◌, ℕ, ◌≤◌, length};
 ghost use Rattle.numerals.specs.Places.{Put};
 ghost use Rattle.limits.specs.Operations.{input_of};

@@ -1,0 +1,11 @@
+-- `listing::parts::put_threads` meets its contract. The invariant: the lines of the first i threads stand from at on. Assumes nothing.
+use Prim.Native.Nat.{◌-◌}
+use Rattle.listing.specs.Twins.{thread_at}
+use Rattle.listing.proofs.LoopLaws.{Printed}
+use Rattle.listing.proofs.parts.put_threads.Given as goal
+
+abbrev pub invariant-loop-i : goal.invariant-loop-i
+invariant-loop-i l = Printed l.initial.out l.at (thread_at l.records) 48 l.n l.out l.end l.i
+
+abbrev pub decreases-loop-i : goal.decreases-loop-i
+decreases-loop-i l = l.n - l.i
