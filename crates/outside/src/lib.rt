@@ -1,5 +1,7 @@
 // The library for callers in C and Rust: numbers and slices of numbers only. Nothing is asked of a caller but valid slices
 // that no one else writes to during the call; every input has its answer, and a refused call writes nothing.
+#![tactic(auto)]
+
 ghost use Rattle.std.specs.Prelude.{◌≡◌};
 ghost use Rattle.judge.specs.Judge.{judged};
 ghost use Rattle.limits.specs.Operations.{input_of};
