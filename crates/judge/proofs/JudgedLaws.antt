@@ -101,6 +101,6 @@ module _ (threads : ℕ) (thread kind : List ℕ) (sample : List ℤ) (fit : tab
       ∙ event_passes thread kind sample (map code_of h) (map beside h) (codes_stand (table_of thread kind sample) h right stands)
 
   -- so a linearization of it gets verdict 0
-  pub history_judged_lem : (order : List ℕ) → Linearizes (table_of thread kind sample) h order → judged threads thread kind sample (map code_of h) (map beside h) order ≡ Says Linear
-  history_judged_lem order z =
+  pub linearization_accepted : (order : List ℕ) → Linearizes (table_of thread kind sample) h order → judged threads thread kind sample (map code_of h) (map beside h) order ≡ Says Linear
+  linearization_accepted order z =
       verdict_complete threads thread kind sample (map code_of h) (map beside h) order history_passes (rw (events_codes (table_of thread kind sample) h right) z)

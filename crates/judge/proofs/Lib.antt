@@ -6,4 +6,3 @@ pub mod IndexLaws
 pub mod StandLaws
 pub mod MarkLaws
 pub mod QueueLaws
-pub mod TellLaws

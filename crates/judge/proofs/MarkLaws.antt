@@ -129,15 +129,15 @@ module _ (T : Table) (cs : List ℕ) (xs : List ℤ) (together : length xs ≡ l
           rw q at (sym b)
 
   -- an odd code gives the return of its operation
-  event_of_lem : (o j : ℕ) → get_or cs j 0 ≡ 2 * o + 1 → (x : ℤ) → event_of T (get_or cs j 0) x ≡ ret o (answer (T.kind o) x)
-  event_of_lem o j e x = by_parity T (get_or cs j 0) x (λ e. e ≡ ret o (answer (T.kind o) x)) (λ p. absurd (omega arith)) (λ p. let q : get_or cs j 0 / 2 ≡ o = omega arith in rw q)
+  odd_return : (o j : ℕ) → get_or cs j 0 ≡ 2 * o + 1 → (x : ℤ) → event_of T (get_or cs j 0) x ≡ ret o (answer (T.kind o) x)
+  odd_return o j e x = by_parity T (get_or cs j 0) x (λ e. e ≡ ret o (answer (T.kind o) x)) (λ p. absurd (omega arith)) (λ p. let q : get_or cs j 0 / 2 ≡ o = omega arith in rw q)
 
   -- a take may get a sample exactly if the marks and samples say so
   pub get_marks : (o : ℕ) (v : ℤ) → T.kind o ≡ taking → MayGet (events T cs xs) o v → Gets xs marks o v
   get_marks o v k g j e =
       let r = m.of (2 * o + 1) j e in
       let at = at_mem (events T cs xs) (ret o (answer (T.kind o) (get_or xs j (pos 0)))) j (rw (events_length T cs xs together) r.0)
-      (event_at_lem T cs xs together j r.0 ∙ event_of_lem o j r.1 (get_or xs j (pos 0))) in
+      (event_at_lem T cs xs together j r.0 ∙ odd_return o j r.1 (get_or xs j (pos 0))) in
       some_back (rw k at (g (answer (T.kind o) (get_or xs j (pos 0))) at))
 
   pub marks_get : (o : ℕ) (v : ℤ) → T.kind o ≡ taking → Gets xs marks o v → MayGet (events T cs xs) o v

@@ -53,12 +53,9 @@ module _ (kind : List ℕ) (sample xs : List ℤ) (marks l : List ℕ) (i : ℕ)
     pub plays_none : ¬ On [] (drop i l)
     plays_none p = (rw (other_kind (get_or kind o 0) ne) at (here [])).0 p
 
-    -- a take that may get the front leaves the rest on the shorter queue
+    -- a take on a queue that is not empty leaves the rest on the shorter queue, if it may get the front
     taken : (v : ℤ) (r : List ℤ) → Same (On (v ∷ r) (drop i l)) (Gets xs marks o v × Next r)
     taken v r = rw (other_kind (get_or kind o 0) ne) at (here (v ∷ r))
-
-    pub plays_take : (v : ℤ) (r : List ℤ) → Gets xs marks o v → Same (On (v ∷ r) (drop i l)) (Next r)
-    plays_take v r g = (λ p. ((taken v r).0 p).1, λ n. (taken v r).1 (g, n))
 
     pub plays_not : (v : ℤ) (r : List ℤ) → ¬ Gets xs marks o v → ¬ On (v ∷ r) (drop i l)
     plays_not v r n p = n ((taken v r).0 p).0

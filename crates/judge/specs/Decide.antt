@@ -26,12 +26,12 @@ abbrev pub below? : (P : ℕ → Type 0) → ((i : ℕ) → Dec (P i)) → (n : 
 below? P d zero = yes (below_none P)
 below? P d (suc n) = through? (below_next P n) (below_split P n) (both? (below? P d n) (d n))
 
-pub put_take_lem : taking ≡ putting → ⊥
-put_take_lem e = let z : ◌≡◌ {A = ℕ} 0 1 = cc in omega arith
+pub put_take : taking ≡ putting → ⊥
+put_take e = let z : ◌≡◌ {A = ℕ} 0 1 = cc in omega arith
 
 abbrev pub put? : (k : Kind) → Dec (k ≡ putting)
 put? putting = yes refl
-put? taking = no put_take_lem
+put? taking = no put_take
 
 abbrev pub four? : {A B C D : Type 0} → Dec A → Dec B → Dec C → Dec D → Dec (A × B × C × D)
 four? a b c d = through? (λ r. (r.0, r.1.0, r.1.1.0, r.1.1.1)) (λ r. (r.0, (r.1, (r.2, r.3)))) (both? a (both? b (both? c d)))

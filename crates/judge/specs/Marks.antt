@@ -7,7 +7,7 @@
 --   Free20 .. PlaysOn  the five conditions over the marks
 --   Finds              the first fault, by them
 --   event_refusal      refusal 10 at the lowest event that cannot stand, or none
---   or_else             the refusal; the verdict, if there is none
+--   or_else            the refusal; the verdict, if there is none
 --   history_judged     the answer for a table that passes
 --   window, queue_of   the samples that a queue holds, the front first
 use Rattle.std.specs.Prelude.{◌≡◌, ◌≢◌, Bool, true, false, List, [], ◌∷◌, ◌++◌, ℕ, zero, suc, ◌+◌, ◌*◌, ◌/◌, ◌%◌, ◌≤◌, ◌<◌, ℤ, pos, length, get_or}

@@ -1,4 +1,6 @@
 // The judge: whether an order that anyone proposes is a linearization of a history. It knows nothing of slots and phases.
+#![tactic(auto)]
+
 ghost use Rattle.std.specs.Prelude.{◌≡◌, ◌≤◌, length};
 ghost use Rattle.judge.specs.Judge.{judged};
 ghost use Rattle.judge.specs.Marks.{Inside, Finds, history_judged};

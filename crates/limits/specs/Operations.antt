@@ -1,7 +1,7 @@
 -- The table of operations, and a run's input (document 01, 'Numbers that bound a run'). Assumes nothing.
 --   Kind      a put or a take; in a list 1 is a put, 2 a take
 --   Table     how many operations, and of each, numbered from 0, its thread, kind and sample
---   table_of   the table that three lists of one length give
+--   table_of  the table that three lists of one length give
 --   puts_in   how many puts a list of kinds has
 --   Input     a run's input: threads, slots, the operations' threads, kinds and samples, the schedule
 --   table     the table that an input gives

@@ -2,7 +2,7 @@
 --   refusal_told        the document's number and detail of each refusal, a row of its table each
 --   unless, unless_at   tests in turn: the first that fails gives its refusal
 --   by_fit              one thing where nothing is refused, another where something is
---   and_then             tests after tests that may already refuse
+--   and_then            tests after tests that may already refuse
 --   lent_after          a lent list afterwards: where nothing is refused its first entries are vs; all else in it is as it was
 --   input_refusal       1 to 8, of a run's input
 use Rattle.std.specs.Prelude.{Bool, true, false, not, ◌&&◌, ◌||◌, List, ℕ, zero, suc, leb, eqb, ℤ, pos, negsuc, length, get_or}

@@ -1,4 +1,6 @@
 // Verdicts on a proposed order, and what a linearization is: definitions and laws. The judge itself is the crate `judge`.
+#![tactic(auto)]
+
 ghost use Rattle.std.specs.Prelude.{◌≡◌};
 ghost use Rattle.linear.specs.Numbers.{verdict_number};
 

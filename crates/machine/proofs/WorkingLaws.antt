@@ -1,5 +1,5 @@
 -- Threads and history in every run: each thread works through its operations in table order, and every event can stand (refusal 10). Assumes nothing.
---   kind_at       the kind of operation that a phase works on; none at rest
+--   kind_at      the kind of operation that a phase works on; none at rest
 --   Now          what is known of the operation that a thread works on
 --   Place        where a thread stands: its operations below `from` were called, those from there on are still to do
 --   Working      every thread has its place, and the history stands

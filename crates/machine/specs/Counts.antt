@@ -1,7 +1,7 @@
 -- The six counts (document 01, 'One step of one thread'), defined over the schedule's steps by the phases that a step leads from and to. Assumes nothing.
---   code_at      the code of a thread's phase
+--   code_at     the code of a thread's phase
 --   counted f   how many steps of a schedule f counts, by the codes of the thread's phase before the step and after it
---   is_idle ..   which steps the five counts count. The sixth, steps, is the schedule's length
+--   is_idle ..  which steps the five counts count. The sixth, steps, is the schedule's length
 use Rattle.std.specs.Prelude.{Bool, cond, ◌&&◌, List, [], ◌∷◌, ℕ, ◌+◌, eqb}
 use Rattle.limits.specs.Operations.{Table}
 use Rattle.machine.specs.Bench.{Bench, worker_at, step}

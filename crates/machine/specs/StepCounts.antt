@@ -21,13 +21,13 @@ unfoldable pub over : (Bench → ℕ → ℕ) → Table → Bench → List ℕ �
 over f T B [] = 0
 over f T B (t ∷ schedule) = f B t + over f T (step T B t) schedule
 
-abbrev pub none_left_lem : List ℕ → ℕ
-none_left_lem [] = 1
-none_left_lem (o ∷ todo) = 0
+abbrev pub none_left : List ℕ → ℕ
+none_left [] = 1
+none_left (o ∷ todo) = 0
 
 -- a step from phase 0 with no operation left
 abbrev pub idle_in : List ℕ → Phase → ℕ
-idle_in todo p = cond (eqb (phase_code p) 0) (none_left_lem todo) 0
+idle_in todo p = cond (eqb (phase_code p) 0) (none_left todo) 0
 
 -- a step from phase 2
 abbrev pub store_in : Phase → ℕ

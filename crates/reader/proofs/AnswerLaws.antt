@@ -109,13 +109,11 @@ module _ (n m : ℕ) (ts ks : List ℕ) (xs : List ℤ) (ss : List ℕ) (hk : le
             }
 
 -- ---- the whole reader
-module _ (s thread₀ kind₀ : List ℕ) (sample₀ : List ℤ) (schedule₀ : List ℕ) where
-  pub read_long : 65536 < length s → ReadSays s thread₀ kind₀ sample₀ schedule₀ (Rd.Refused Text) thread₀ kind₀ sample₀ schedule₀
-  unfolding read_fit
-  read_long h =
-      let b = lt-leb (length s) 65536 h in
-      record { answer = rw b; threads = rw b; kinds = rw b; samples = rw b; steps = rw b }
+pub fit_long : (s : List ℕ) (a b c d : ℕ) → 65536 < length s → read_fit s a b c d ≡ Refused Text
+unfolding read_fit
+fit_long s a b c d h = rw (lt-leb (length s) 65536 h)
 
+module _ (s thread₀ kind₀ : List ℕ) (sample₀ : List ℤ) (schedule₀ : List ℕ) where
   module _ (short : length s ≤ 65536) where
     -- the answer to a text that is not too long is the one to its reading
     read_settled : (r : Read) (thread kind : List ℕ) (sample : List ℤ) (schedule : List ℕ) → SettleSays (read_of s) thread₀ kind₀ sample₀ schedule₀ r thread kind sample schedule → ReadSays s thread₀ kind₀ sample₀ schedule₀ r thread kind sample schedule

@@ -87,10 +87,6 @@ module _ (s : List ℕ) where
       (g.1.1.1.1, omega (arith, h.1.1.1.0, g.1.1.1.0)),
     )
 
--- ---- the schedule
-under_wrong : (ss : List ℕ) (f : File) (k : ℕ) → f ≡ wrong k → under_steps ss f ≡ wrong k
-under_wrong ss f k e = ap (under_steps ss) e
-
 under_snoc : (ss : List ℕ) (t : ℕ) (f : File) → under_steps (ss ++ (t ∷ [])) f ≡ under_steps ss (add_step t f)
 under_snoc ss t (file a b thread kind sample schedule) = ap (file a b thread kind sample) (append_assoc ss (t ∷ []) schedule)
 under_snoc ss t (wrong k) = refl

@@ -8,7 +8,7 @@ use native.Mathlib.Omega.{arith}
 use native.Mathlib.Numerals.{add-one}
 use lib.IntN.{ℤ}
 use lib.ListN.{length, get_or, take, drop, length-append, length-drop}
-use lib.Seq.{take-nil, take_take, split_at, length-take-le, get_or-take, get_or-drop, get_or-append_seam, take-append_seam, drop-drop}
+use lib.Seq.{take-nil, take-take, split_at, length-take-le, get_or-take, get_or-drop, get_or-append_seam, take-append_seam, drop-drop}
 use mir.Syntax.{w32}
 use mir.Val.{to_z, of_z}
 use mir.ValLaws.{to_z-of_z}
@@ -99,7 +99,7 @@ module _ (s : List ℕ) (a e : ℕ) (ae : a ≤ e) (es : e ≤ length s) where
       at_word = get_or-take (e - a) (drop a s) (length w) 0 long ∙ get_or-drop a s (length w) 0 ∙ ap (λ (k : ℕ). get_or s k 0) (sym be)
 
       front : take (b - a) (drop a s) ≡ take (length w) line_at
-      front = let d : b - a ≡ length w = omega arith in ap (λ (k : ℕ). take k (drop a s)) d ∙ sym (take_take (length w) (e - a) (drop a s) (omega arith))
+      front = let d : b - a ≡ length w = omega arith in ap (λ (k : ℕ). take k (drop a s)) d ∙ sym (take-take (length w) (e - a) (drop a s) (omega arith))
 
       -- no tab after it
       pub pass_untabbed : (get_or s b 0 ≡ 9 → ⊥) → PassSays a line_at w F.Missing
@@ -148,7 +148,7 @@ module _ (s : List ℕ) (a e : ℕ) (ae : a ≤ e) (es : e ≤ length s) where
     put_two l =
         let cut = parts_cut 9 (take e s) f u eu (omega (arith, eu)) (rw in_line l) in
         sym (whole ∙ put_after (drop f (take e s)) (take (u - f) (drop f (take e s))) (drop (u + 1) (take e s)) cut
-        ∙ (λ i. put_of (number_of ((ap (take (u - f)) (drop_take f e s) ∙ take_take (u - f) (e - f) (drop f s) (omega arith)) i)) (sample_of (drop_take (u + 1) e s i))))
+        ∙ (λ i. put_of (number_of ((ap (take (u - f)) (drop_take f e s) ∙ take-take (u - f) (e - f) (drop f s) (omega arith)) i)) (sample_of (drop_take (u + 1) e s i))))
 
 -- a sample that was read stands in 32 bits as itself
 pub sample_exact : (s : List ℕ) (x : ℤ) → sample_of s ≡ S.Is x → to_z w32 (of_z w32 x) ≡ x

@@ -2,7 +2,7 @@
 --   PassSays        the place after a word and its tab, where a line begins with them
 --   LineSays        a line of a word and a number, with the place of the next; or that the next line is none
 --   ShortSays       a step of one or two digits, read the short way; nothing is said where that way does not serve
---   put_in           the put of a line, by its fields
+--   put_in          the put of a line, by its fields
 --   HeadSays        the first two lines, with the place after them
 --   OpsSays         the operations read, and what they leave to be read
 --   StepsSay        the schedule read

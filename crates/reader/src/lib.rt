@@ -1,4 +1,6 @@
 // The reader of run files: from a text to the four lists of a run's input.
+#![tactic(auto)]
+
 ghost use Rattle.std.specs.Prelude.{◌≡◌, ◌-◌};
 ghost use Rattle.std.proofs.lemmas.List.Edits.{sets};
 ghost use Rattle.runfile.specs.Reading.{file};
@@ -25,6 +27,7 @@ pub(crate) fn put_samples(out: &mut [i32], w: &[i32])
 }
 
 // Refusals 1 to 9 of what a text holds, where the lent lists are this long.
+#[tactic(auto, using(runfile::proofs::FitLaws::room_tests))]
 pub(crate) fn fit_read(
     in_thread: usize,
     in_kind: usize,
@@ -109,6 +112,7 @@ pub(crate) fn cap(n: usize, most: usize) -> usize
 
 // Reads a run file: its operations and its schedule into the first entries of the lent lists. A refusal changes no entry.
 // One operation and one entry more than a run may have are kept, so that too many are seen.
+#[tactic(auto, using(crate::proofs::AnswerLaws::fit_long))]
 pub fn read_run(
     text: &[u8],
     thread: &mut [u8],

@@ -1,5 +1,7 @@
 // A run whose caller lends a list of thread records: the covered core, then the records, stored one by one.
-// A slice of structs is walked by hand; so `run` only calls, and what it calls reads and decides.
+// `run` only calls, and what it calls reads and decides.
+#![tactic(auto)]
+
 ghost use Rattle.std.specs.Prelude.{◌≡◌, ◌++◌, ◌≤◌, ◌<◌, length, get_or, take, drop};
 ghost use Rattle.limits.specs.Operations.{input_of};
 ghost use Rattle.run.specs.Run.{lists_of};

@@ -1,7 +1,7 @@
 -- A run: what it is to answer, and what the lent lists of numbers hold afterwards (document 01, 'History, order, and what a run writes', refusals 1 to 9).
 -- Assumes nothing.
 --   Lists        the lists of numbers that a run's caller lends: event codes, event samples, order, slot marks, slot samples
---   lists_of      the five lists as one
+--   lists_of     the five lists as one
 --   has_room     none of them is shorter than needed, and there is room for the thread records
 --   run_fit      the refusal that the input gets, or none: 1 to 8, then 9
 --   bench_after  the bench after the schedule

@@ -114,3 +114,6 @@ module _ (a b c d n m : ℕ) (ts ks : List ℕ) (xs : List ℤ) (ss : List ℕ) 
           let w = go (leb (length ts) a) (leb (length ks) b) (leb (length xs) c) (leb (length ss) d) e in
           (q, (leb-true (length ts) a w.0, (leb-true (length ks) b w.1.0, (leb-true (length xs) c w.1.1.0, leb-true (length ss) d w.1.1.1))))
       at (Refused x) q e = let z : ◌≡◌ {A = ℕ} 0 1 = cc in absurd (omega arith)
+
+-- each way out of a function that tests in turn
+pub ruleset room_tests = (fit_refused, no_thread_room, no_kind_room, no_sample_room, no_step_room, all_room)

@@ -1,6 +1,6 @@
 -- Demand 3, in terms of what a run writes: its history h, the records of its threads, the marks and samples of its slots, and the order that it lists
 -- (document 01, 'History, order, and what a run writes'). Assumes nothing.
---   phase_in rs t   thread t's phase by its record
+--   phase_in rs t  thread t's phase by its record
 --   AtWork         operation o was called and has not returned, and its thread is in phase p
 --   Listed         o has returned, or is a put that stored, or a take that found
 --   Gets           take o returned x, or holds x

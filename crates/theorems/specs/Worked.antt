@@ -1,6 +1,6 @@
 -- The runs that document 01 works by hand, in one table ('Runs worked by hand', A to I). Assumes nothing.
 --   Result     what a run shows: that its input passes, reservation count, codes and samples of the events, order, slots, phases, the six counts
---   result_of   the result of a run
+--   result_of  the result of a run
 --   Worked     the table: each run with its result as the document gives it, and the judge's answers on run A's history
 use Rattle.std.specs.Prelude.{◌≡◌, List, [], ◌∷◌, ℕ, ℤ, pos, length}
 use Rattle.limits.specs.declared.Fit.{Fit}

@@ -3,7 +3,7 @@
 use mathlib.Core.Path.{◌≡◌, refl, sym, ◌∙◌, ap, subst}
 use mathlib.Core.Bool.{Bool, true, false}
 use mathlib.Core.List.{List, [], ◌∷◌, ◌++◌, append_assoc, append-nil}
-use Prim.Native.Nat.{ℕ, suc, ◌+◌, ◌-◌, ◌≤◌, ◌<◌}
+use Prim.Native.Nat.{ℕ, suc, ◌+◌, ◌≤◌, ◌<◌}
 use native.Mathlib.Omega.{arith}
 use lib.Dec.{ltb}
 use borrow.Author.Tests.{ltb-true, ltb-false, le-leb, lt-leb}
@@ -11,20 +11,20 @@ use mir.Syntax.{w32}
 use mir.Val.{SFits}
 use lib.IntN.{ℤ, pos}
 use lib.ListN.{length, get_or, drop, drop_of_length-le}
-use lib.Seq.{drop-cons}
+use lib.Seq.{drop-cons, sets}
 use Rattle.numerals.specs.Decimal.{decimal}
 use Rattle.numerals.specs.Samples.{sample_text}
-use Rattle.numerals.specs.Places.{Put}
+use Rattle.numerals.specs.Places.{after, Put}
 use Rattle.numerals.proofs.PrintLaws.{put_then, put_as, put_none}
 use Rattle.limits.specs.declared.Refusal.{Refusal}
 use Rattle.limits.specs.declared.Refusal.TheVariants.{Room}
 use Rattle.limits.specs.declared.Fit.TheVariants.{Pass, Refused}
 use Rattle.limits.specs.Operations.{Input, input_of}
 use Rattle.limits.specs.Refusals.{input_refusal}
-use Rattle.runfile.specs.declared.Written.TheVariants as Wr
-use Rattle.runfile.specs.RunText.{Fitting}
+use Rattle.runfile.specs.RunText.{Fitting, run_text}
 use Rattle.runfile.specs.Spelling.{threads_word, slots_word, put_word, step_word, pair_line, put_line, op_line, ended, ops_text, steps_text, spelled}
-use Rattle.runfile.specs.Answers.{write_fit, WriteSays}
+use Rattle.runfile.specs.Answers.{write_fit}
+use Rattle.limits.specs.Lists.{over}
 use Rattle.limits.proofs.PassLaws.{input_passed}
 use Rattle.runfile.proofs.FitLaws.{over_sets}
 use Rattle.runfile.proofs.TextLaws.{all_fit, text_short}
@@ -100,31 +100,37 @@ run_text_spelled threads slots thread kind sample schedule =
     let d = steps_text schedule in
     append_assoc (ended a [] ++ ended b []) c d ∙ append_assoc (ended a []) (ended b []) (c ++ d) ∙ ap (λ (t : List ℕ). ended a [] ++ t) (ended_then b (c ++ d)) ∙ ended_then a (ended b (c ++ d))
 
-module _ (threads slots : ℕ) (thread kind : List ℕ) (sample : List ℤ) (schedule text : List ℕ) where
+module _ (threads slots : ℕ) (thread kind : List ℕ) (sample : List ℤ) (schedule : List ℕ) where
   abbrev i : Input
   i = input_of threads slots thread kind sample schedule
 
   abbrev whole : List ℕ
   whole = spelled threads slots thread kind sample schedule
 
-  pub write_refused : (x : Refusal) → input_refusal i ≡ Refused x → WriteSays i text (Wr.Refused x) text
+  pub even_kinds : input_refusal i ≡ Pass → length kind ≡ length thread
+  even_kinds e = (input_passed i e).kinds
+
+  pub even_samples : input_refusal i ≡ Pass → length sample ≡ length thread
+  even_samples e = (input_passed i e).samples
+
+  -- the place after a text put from 0 on is its length, since that is small
+  pub text_size : (b : ℕ) → b ≡ after 0 (length whole) → input_refusal i ≡ Pass → Fitting sample → length (run_text i) ≡ b
+  text_size b p e f = rw (run_spelled i) (omega (arith, p, text_short (input_passed i e) (all_fit sample f)))
+
+  pub text_stands : (text : List ℕ) → length (run_text i) ≤ length text → over (run_text i) text ≡ sets text 0 whole
+  text_stands text h = rw (run_spelled i) (sym (over_sets whole text (omega (arith, h, ap length (run_spelled i)))))
+
+  pub fit_refused : (n : ℕ) (x : Refusal) → input_refusal i ≡ Refused x → write_fit i n ≡ Refused x
   unfolding write_fit
-  write_refused x e = record { answer = rw e; bytes = rw e }
+  fit_refused n x e = rw e
 
-  module _ (e : input_refusal i ≡ Pass) (f : Fitting sample) (b : ℕ) (none none' : List ℕ) (p : Put none 0 whole b none') where
-    -- the place after a text put from 0 on is its length, since that is small
-    bytes_are : b ≡ length whole
-    bytes_are = omega (arith, p.place, text_short (input_passed (input_of threads slots thread kind sample schedule) e) (all_fit sample f))
+  pub fit_no_room : (n : ℕ) → input_refusal i ≡ Pass → n < length (run_text i) → write_fit i n ≡ Refused Room
+  unfolding write_fit
+  fit_no_room n e h = rw (e, lt-leb (length (run_text i)) n h)
 
-    pub write_no_room : length text < b → WriteSays i text (Wr.Refused Room) text
-    unfolding write_fit
-    write_no_room h =
-        let l = lt-leb (length whole) (length text) (omega (arith, bytes_are)) in
-        record { answer = rw (run_spelled i, e, l); bytes = rw (run_spelled i, e, l) }
+  pub fit_room : (n : ℕ) → input_refusal i ≡ Pass → length (run_text i) ≤ n → write_fit i n ≡ Pass
+  unfolding write_fit
+  fit_room n e h = rw (e, le-leb (length (run_text i)) n h)
 
-    pub write_done : b ≤ length text → (r : ℕ) (text' : List ℕ) → Put text 0 whole r text' → WriteSays i text (Wr.Bytes b) text'
-    unfolding write_fit
-    write_done h r text' q =
-        let h' : length whole ≤ length text = omega (arith, bytes_are) in
-        let l = le-leb (length whole) (length text) h' in
-        record { answer = rw (run_spelled i, e, l, ← bytes_are); bytes = rw (run_spelled i, e, l) (q.text ∙ over_sets whole text h') }
+-- each way out of `write_run`
+pub ruleset answers = (even_kinds, even_samples, text_size, text_stands, fit_refused, fit_no_room, fit_room)

@@ -1,4 +1,6 @@
 // The writer of run files: from the lists of a run's input to the text.
+#![tactic(auto)]
+
 ghost use Rattle.std.specs.Prelude.{◌≡◌, [], length};
 ghost use Rattle.limits.specs.Operations.{input_of};
 ghost use Rattle.numerals.specs.Places.{Put};
@@ -96,6 +98,7 @@ pub(crate) fn write_text(
 
 // Writes a run file into the first bytes of the lent text. A refusal changes no byte.
 // The text is first written into no room at all, which gives the number of its bytes.
+#[tactic(auto, using(crate::proofs::WriteLaws::answers))]
 pub fn write_run(
     threads: usize,
     slots: usize,

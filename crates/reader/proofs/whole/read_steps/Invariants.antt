@@ -1,0 +1,16 @@
+-- What was read is stored, and the reading from a on, under it, is the whole reading.
+use Rattle.std.proofs.Common.{◌≤◌, ◌+◌, ◌-◌, length}
+use Rattle.reader.proofs.LineLaws.{Left}
+use Rattle.reader.proofs.whole.read_steps.Given as goal
+
+abbrev pub invariant-loop-a : goal.invariant-loop-a
+invariant-loop-a l =
+    record {
+      in_range : l.a ≤ length l.text;
+      lines : l.k ≤ l.a + 1;
+      few : l.count ≤ l.a;
+      left : Left l.text l.from l.first l.fn.out l.out l.a l.k l.count;
+    }
+
+abbrev pub decreases-loop-a : goal.decreases-loop-a
+decreases-loop-a l = l.n - l.a
