@@ -3,7 +3,6 @@
 use native.Mathlib.Omega.{arith}
 use Rattle.listing.proofs.AnswerLaws.{text_fits, text_short}
 use Rattle.listing.proofs.fill.Goals as goal
-use Rattle.listing.proofs.fill.Goals.{else-text-lt-ROOM, then-text-lt-ROOM+else-text-n}
 
 pub returns-then-text-n : goal.returns-then-text-n
 returns-then-text-n c = record { text_says = text_short (omega (arith, c.put_listing-n.ensures.put.place)); short = c.put_listing-n.ensures.short }
@@ -11,8 +10,4 @@ returns-then-text-n c = record { text_says = text_short (omega (arith, c.put_lis
 pub returns : goal.returns
 returns c =
     let p = c.put_listing-n-2 in
-    record {
-      text_says = text_fits (elim c.if-text-lt-ROOM.branch [ then-text-lt-ROOM+else-text-n w ↦ omega (arith, p.ensures.short) | else-text-lt-ROOM w ↦ omega (arith, p.ensures.short) ])
-          (omega arith) p.ensures.put;
-      short = p.ensures.short;
-    }
+    record { text_says = text_fits (grind arith) (omega arith) p.ensures.put; short = p.ensures.short }
