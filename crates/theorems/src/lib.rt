@@ -1,1 +1,2 @@
 // Claims on whole runs, with their proofs; no code of its own.
+#![tactic(auto)]
