@@ -1,6 +1,8 @@
 // Reads a run file on standard input and writes its listing, or the one line of its refusal: `answer_text` of the bytes that were read.
 #![tactic(auto)]
-ghost use Rattle.std.specs.Prelude.{◌≤◌, length, IfOk};
+ghost use Rattle.std.specs.Prelude.{◌≤◌, length, IfOk, OnOk};
+ghost use Rattle.std.specs.Io.KnownBytes.{Appends};
+ghost use Rattle.answer.specs.Answer.{answer_text};
 
 use listing::Listing;
 use std::io::{self, Read, Write};
@@ -20,13 +22,20 @@ fn read_full<R: Read>(input: &mut R, text: &mut [u8]) -> io::Result<usize>
     Ok(done)
 }
 
-// One byte more is read than a run file may have, so that too long a text is seen; 12,288 bytes are room for every answer.
+// Writes what is printed for a text; 12,288 bytes are room for every answer.
+fn write_answer<W: Write>(text: &[u8], output: &mut W) -> io::Result<()>
+    ensures written { OnOk result (Appends (W.contents output.old) (W.contents output.new) (answer_text text.now)) }
+{
+    let mut out = [0u8; 12288];
+    let Listing::Bytes(m) = answer::answer(text, &mut out) else {
+        return Ok(());
+    };
+    output.write_all(&out[..m])
+}
+
+// One byte more is read than a run file may have, so that too long a text is seen.
 fn main(rt: HostRuntime) -> io::Result<()> {
     let mut text = [0u8; 65537];
     let n = read_full(&mut rt.stdin(), &mut text)?;
-    let mut out = [0u8; 12288];
-    let Listing::Bytes(m) = answer::answer(&text[..n], &mut out) else {
-        return Ok(());
-    };
-    io::writer(&rt).write_all(&out[..m])
+    write_answer(&text[..n], &mut io::writer(&rt))
 }
