@@ -40,6 +40,10 @@ unfolding sample_of
 sample_minus [] d l h e = absurd (omega arith)
 sample_minus (c ∷ s) d l h e = rw (eq-eqb c 45 h) (ap minus_of (e ∙ ap (λ (t : List ℕ). digits_of t 2147483648) (take_all (length (c ∷ s) - 1) s (omega arith))))
 
+-- -0 is no sample
+pub sample_zero : (s : List ℕ) → 0 < length s → get_or s 0 0 ≡ 45 → digits_of (take (length s - 1) (drop 1 s)) 2147483648 ≡ Value 0 → sample_of s ≡ Bad
+sample_zero s l h e = sym (sample_minus s (Value 0) l h (sym e))
+
 pub sample_plus : (s : List ℕ) (d : Digits) → 0 < length s → (get_or s 0 0 ≡ 45 → ⊥) → d ≡ digits_of s 2147483647 → plus_of d ≡ sample_of s
 unfolding sample_of
 sample_plus [] d l h e = absurd (omega arith)

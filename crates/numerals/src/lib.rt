@@ -89,6 +89,7 @@ pub(crate) fn minus(v: u32) -> i32
 }
 
 // The sample that the whole of s writes.
+#[tactic(auto, using(crate::proofs::SampleLaws::sample_zero))]
 pub fn read_sample(s: &[u8]) -> Sample
     ensures { result ≡ sample_of s.now }
 {

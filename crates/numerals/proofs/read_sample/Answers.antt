@@ -2,7 +2,6 @@ use Rattle.std.proofs.Common.{arith, ◌≡◌, ◌≤◌, ◌%◌, ◌∙◌, a
 use mir.ValLaws.{to_z-of_z}
 use Rattle.numerals.specs.declared.Digits.TheVariants.{Value, Bad}
 use Rattle.numerals.specs.declared.Sample.TheVariants.{Is}
-use Rattle.numerals.specs.Reading.{negated}
 use Rattle.numerals.proofs.DigitLaws.{digits_small}
 use Rattle.numerals.proofs.SampleLaws.{sample_none, sample_minus, sample_plus, negated_is}
 use Rattle.numerals.proofs.SignLaws.{minus_fits}
@@ -13,9 +12,6 @@ returns-then-s-eq0 c = sample_none c.args.s.now c.if-s-eq0.true
 
 pub returns-in_default : goal.returns-in_default
 returns-in_default c = sample_minus c.args.s.now Bad (omega arith) c.if-s-eq45.true c.in_default.ensures
-
-pub returns-then-v-eq0 : goal.returns-then-v-eq0
-returns-then-v-eq0 c = ap negated (sym c.if-v-eq0.true) ∙ sample_minus c.args.s.now (Value c.in-Value.v) (omega arith) c.if-s-eq45.true c.in-Value.ensures
 
 pub returns-then-s-eq45 : goal.returns-then-s-eq45
 returns-then-s-eq45 c =
