@@ -18,7 +18,6 @@ use Rattle.runfile.specs.declared.Read.{Read}
 use Rattle.runfile.specs.declared.Read.TheVariants.{Run, Refused}
 use Rattle.runfile.specs.Reading.{read_of}
 use Rattle.runfile.specs.Answers.{input_in, read_fit, ReadSays}
-use Rattle.limits.proofs.PassLaws.{input_passed}
 use Rattle.runfile.proofs.RunFiles.{fit_read, read_fit_lem, read_input}
 use Rattle.listing.specs.declared.Listing.{Listing}
 use Rattle.listing.specs.declared.Listing.TheVariants.{Bytes, Refused as NotWritten}
@@ -72,16 +71,6 @@ module _ {text thread kind : List ℕ} {sample : List ℤ} {schedule : List ℕ}
   pub whole_fit : read_fit text 128 128 128 4096 ≡ fit_read r
   whole_fit =
       sym (λ i. read_fit text (length-replicate {A = ℕ} 128 0 i) (length-replicate {A = ℕ} 128 0 i) (length-replicate 128 (pos 0) i) (length-replicate {A = ℕ} 4096 0 i)) ∙ read_fit_lem says
-
--- an accepted text has no more than the lists have room for
-pub text_held : {text thread kind : List ℕ} {sample : List ℤ} {schedule : List ℕ} {n m o t : ℕ} → ReadWhole text (Run n m o t) thread kind sample schedule → (o ≤ 128) × (t ≤ 4096)
-text_held {text} {n = n} {m = m} {o = o} {t = t} says =
-    let i = input_in (read_of text) in
-    let p = input_passed i (read_input says).0.passes in
-    let e : Run n m o t ≡ Run i.threads i.slots (length i.thread) (length i.schedule) = rw (read_fit_lem says) at says.answer in
-    let eo : o ≡ length i.thread = cc in
-    let et : t ≡ length i.schedule = cc in
-    (omega (arith, p.few), omega (arith, p.short))
 
 module _ {text thread kind : List ℕ} {sample : List ℤ} {schedule out : List ℕ} {r : Listing} {out' : List ℕ} where
   -- the line of the refusal was written

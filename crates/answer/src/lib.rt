@@ -1,5 +1,6 @@
 // What is printed for a text: the listing of the run it holds, or the one line of its refusal.
 #![tactic(auto)]
+
 ghost use Rattle.answer.specs.Answer.{AnswerSays};
 
 use listing::Listing;
