@@ -1,5 +1,6 @@
 // Reads a run file on standard input and writes its listing, or the one line of its refusal: `answer_text` of the bytes that were read.
 #![tactic(auto)]
+
 ghost use Rattle.std.specs.Prelude.{◌≤◌, length, IfOk, OnOk};
 ghost use Rattle.std.specs.Io.KnownBytes.{Appends};
 ghost use Rattle.answer.specs.Answer.{answer_text};
