@@ -1,7 +1,7 @@
 /*
  * Run A of document 01, played from C: prints the listed order and the slots, as lines of the listing.
  *
- *   rt staticlib outside
+ *   tests/build outside
  *   cc -Iinclude examples/run_a.c target/staticlib/liboutside.a -o target/run_a && target/run_a
  */
 #include <inttypes.h>

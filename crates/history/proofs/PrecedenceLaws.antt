@@ -15,7 +15,7 @@ use Rattle.history.specs.History.{Event, call, ret, Called, Returned, Precedes, 
 use Rattle.history.specs.Standing.{CanStand, StandsAfter, Stands}
 use Rattle.history.proofs.ListLaws.{all_of_mem}
 use Rattle.history.proofs.HistoryLaws.{mem_call, mem_ret, Apart, Right, Sound}
-use Rattle.history.proofs.PrecedenceLists.{all_get_d, all_map, pw_map, pw_map_to, sub_length, below, length_below, mem_below}
+use Rattle.history.proofs.PrecedenceLists.{all_get_or, all_map, pw_map, pw_map_to, sub_length, below, length_below, mem_below}
 
 -- ---- one event more
 
@@ -223,7 +223,7 @@ pub code_stands : (T : Table) (h : List Event) → Stands T h → All (Right T) 
 code_stands T h s r i lt =
     let c : get_or (map code_of h) i 0 ≡ code_of (get_or h i (call 0)) = get_or-map code_of h i (call 0) in
     let x : get_or (map beside h) i (pos 0) ≡ beside (get_or h i (call 0)) = get_or-map beside h i (call 0) in
-    rw (c, x, event_back T (get_or h i (call 0)) (all_get_d (Right T) h (call 0) r i lt)) (stands_at T h s i lt)
+    rw (c, x, event_back T (get_or h i (call 0)) (all_get_or (Right T) h (call 0) r i lt)) (stands_at T h s i lt)
 
 -- a right history is what its codes and samples give
 pub events_back : (T : Table) (h : List Event) → All (Right T) h → events T (map code_of h) (map beside h) ≡ h

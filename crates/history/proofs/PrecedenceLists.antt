@@ -41,15 +41,15 @@ module _ {A : Type 0} where
 
   -- ---- by index
 
-  pub all_get_d : (P : A → Type 0) (l : List A) (d : A) → All P l → (i : ℕ) → i < length l → P (get_or l i d)
-  all_get_d P [] d h i le = absurd (not-suc-le-zero le)
-  all_get_d P (x ∷ l) d h zero le = h.0
-  all_get_d P (x ∷ l) d h (suc i) le = all_get_d P l d h.1 i (le_of_suc-le-suc le)
+  pub all_get_or : (P : A → Type 0) (l : List A) (d : A) → All P l → (i : ℕ) → i < length l → P (get_or l i d)
+  all_get_or P [] d h i le = absurd (not-suc-le-zero le)
+  all_get_or P (x ∷ l) d h zero le = h.0
+  all_get_or P (x ∷ l) d h (suc i) le = all_get_or P l d h.1 i (le_of_suc-le-suc le)
 
   pub pw_get_or : (R : A → A → Type 0) (l : List A) (d : A) → Pw R l → (i j : ℕ) → i < j → j < length l → R (get_or l i d) (get_or l j d)
   pw_get_or R [] d h i j lt le = absurd (not-suc-le-zero le)
   pw_get_or R (x ∷ l) d h zero zero lt le = absurd (not-suc-le-zero lt)
-  pw_get_or R (x ∷ l) d h zero (suc j) lt le = all_get_d (R x) l d h.0 j (le_of_suc-le-suc le)
+  pw_get_or R (x ∷ l) d h zero (suc j) lt le = all_get_or (R x) l d h.0 j (le_of_suc-le-suc le)
   pw_get_or R (x ∷ l) d h (suc i) zero lt le = absurd (not-suc-le-zero lt)
   pw_get_or R (x ∷ l) d h (suc i) (suc j) lt le = pw_get_or R l d h.1 i j (le_of_suc-le-suc lt) (le_of_suc-le-suc le)
 
@@ -71,8 +71,8 @@ module _ {A : Type 0} where
   pub once_get_or : (l : List A) (d : A) → Pw (λ a b. a ≢ b) l → (i j : ℕ) → i < length l → j < length l → get_or l i d ≡ get_or l j d → i ≡ j
   once_get_or [] d h i j li lj e = absurd (not-suc-le-zero li)
   once_get_or (x ∷ l) d h zero zero li lj e = refl
-  once_get_or (x ∷ l) d h zero (suc j) li lj e = absurd (all_get_d (λ b. x ≢ b) l d h.0 j (le_of_suc-le-suc lj) e)
-  once_get_or (x ∷ l) d h (suc i) zero li lj e = absurd (all_get_d (λ b. x ≢ b) l d h.0 i (le_of_suc-le-suc li) (sym e))
+  once_get_or (x ∷ l) d h zero (suc j) li lj e = absurd (all_get_or (λ b. x ≢ b) l d h.0 j (le_of_suc-le-suc lj) e)
+  once_get_or (x ∷ l) d h (suc i) zero li lj e = absurd (all_get_or (λ b. x ≢ b) l d h.0 i (le_of_suc-le-suc li) (sym e))
   once_get_or (x ∷ l) d h (suc i) (suc j) li lj e = ap suc (once_get_or l d h.1 i j (le_of_suc-le-suc li) (le_of_suc-le-suc lj) e)
 
   -- an entry set in a list: where it is set the new one, elsewhere the old one

@@ -1,5 +1,5 @@
 -- The lines of a listing, from a run's result (document 01, 'Runs worked by hand', the listing of run A and what follows it). Assumes nothing.
---   lines_from f i l     a line for each entry of l, the entries numbered from i on
+--   lines_from f i l    a line for each entry of l, the entries numbered from i on
 --   event_line          kind and operation of an event, and a sample where a take returns
 --   order_line          an operation of the listed order
 --   slot_line           a slot's number, and its sample or `empty`

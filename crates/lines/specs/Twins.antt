@@ -1,7 +1,7 @@
 -- Nothing in this file has to be believed: what is written of an event, a slot or a phase, by the definitions of Lines.
 --   return_by   the line of a return, by its operation's kind and the sample beside it
 --   event_by    the line of an event, by its code and the sample beside it
---   slot_by      the line of a slot, by its mark and the sample it holds
+--   slot_by     the line of a slot, by its mark and the sample it holds
 --   phase_text  what follows a thread's number
 use Rattle.std.specs.Prelude.{cond, List, [], ℕ, eqb, ℤ}
 use Rattle.limits.specs.Operations.{kind_of, table_of}

@@ -15,7 +15,7 @@ use Rattle.limits.proofs.PassLaws.{input_passed}
 use Rattle.history.specs.History.{Event, call, ret, code_of, beside, answer, event_of}
 use Rattle.history.proofs.HistoryLaws.{Right}
 use Rattle.history.proofs.CodeLaws.{event_call, event_ret}
-use Rattle.history.proofs.PrecedenceLists.{all_get_d}
+use Rattle.history.proofs.PrecedenceLists.{all_get_or}
 use Rattle.machine.specs.declared.ThreadRecord.{ThreadRecord}
 use Rattle.machine.specs.Bench.{Bench, Slot, Empty, Filled, Worker, idler}
 use Rattle.machine.specs.Shown.{codes, samples, order, mark, held, records}
@@ -99,7 +99,7 @@ module _ (threads slots : ℕ) (thread kind : List ℕ) (sample : List ℤ) (sch
     event_lines : upto (event_at kind (codes B ++ cs) (samples B ++ vs)) (length B.history) ≡ lines_from (λ i e. event_line e) 0 B.history
     event_lines = lines_by (λ i e. event_line e) (call 0) (event_at kind (codes B ++ cs) (samples B ++ vs)) (length B.history) B.history refl
         (λ i lt. (λ j. event_line (event_of T (mapped_at code_of B.history cs (call 0) i lt j) (mapped_at beside B.history vs (call 0) i lt j)))
-        ∙ ap event_line (event_shown T (get_or B.history i (call 0)) (all_get_d (Right T) B.history (call 0) (history_right T threads slots B run) i lt)))
+        ∙ ap event_line (event_shown T (get_or B.history i (call 0)) (all_get_or (Right T) B.history (call 0) (history_right T threads slots B run) i lt)))
 
     order_lines : upto (order_at (order B ++ os)) (length (order B)) ≡ lines_from (λ i o. order_line o) 0 (order B)
     order_lines = lines_by (λ i o. order_line o) 0 (order_at (order B ++ os)) (length (order B)) (order B) refl (λ i lt. ap order_line (get_or-append (order B) os 0 i lt))

@@ -1,6 +1,6 @@
 -- Nothing in this file has to be believed: what the private functions write, by the definitions of Lines.
 --   upto g n    the texts g 0 to g (n - 1), one after the other
---   event_at ..  the line at an index
+--   event_at .. the line at an index
 --   Both        no more entries than the most there can be, and than either list has
 --   Shown       the first entries of which a listing is made are there
 --   listing_by  the whole listing, by what a run answers and the lists it filled

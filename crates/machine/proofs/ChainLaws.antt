@@ -14,7 +14,7 @@ use Rattle.limits.specs.Lists.{All, Mem, Pw}
 use Rattle.limits.specs.Operations.{Kind, putting, taking, Table}
 use Rattle.history.specs.History.{Event, call, ret, Called, Precedes}
 use Rattle.history.proofs.ListLaws.{clash, all_imp, all_imp₂, all_of_mem, pw_imp}
-use Rattle.history.proofs.PrecedenceLists.{all_snoc, all_get_d, pw_snoc, pw_get_or, set_case, get_or_snoc, once_get_or}
+use Rattle.history.proofs.PrecedenceLists.{all_snoc, all_get_or, pw_snoc, pw_get_or, set_case, get_or_snoc, once_get_or}
 use Rattle.history.proofs.PrecedenceLaws.{precedes_returned, precedes_old, Fresh}
 use Rattle.order.specs.Order.{found_puts}
 use Rattle.machine.specs.declared.Phase.{Phase}
@@ -125,7 +125,7 @@ module _ (T : Table) (n m : ℕ) (B : Bench) (r : Run T n m B) (i : OrderedAt T 
       others q lq j b g x y lx ly p =
           let k : (j < b) × (b ≤ length rs) = rw g at (s.fits q lq) in
           i.behind q lq j b g x y lx ly
-          (precedes_old h e new (get_or rs x 0) (get_or rs y 0) (all_get_d (λ p. Called h p) rs 0 reserved_called y (omega (arith, k.1))) p)
+          (precedes_old h e new (get_or rs x 0) (get_or rs y 0) (all_get_or (λ p. Called h p) rs 0 reserved_called y (omega (arith, k.1))) p)
 
   -- the thread goes to another phase, and no reservation, find or event is added
   ordered_to : (v : Worker) → Behind rs fs h v.phase → Ordered T n (set ws t v) rs fs h
@@ -174,7 +174,7 @@ module _ (T : Table) (n m : ℕ) (B : Bench) (r : Run T n m B) (i : OrderedAt T 
       fit = rw e at (s.fits t lt)
 
       here : (k : ℕ) → Precedes h (get_or rs j 0) (get_or rs k 0) → Mem (get_or rs j 0) (found_puts fs)
-      here k p = go (returned_kept (get_or rs j 0) (get_or rs k 0) (all_get_d (λ q. (T.kind q ≡ putting) × Called h q) rs 0 s.puts j (omega (arith, fit.0, fit.1))).0 p)
+      here k p = go (returned_kept (get_or rs j 0) (get_or rs k 0) (all_get_or (λ q. (T.kind q ≡ putting) × Called h q) rs 0 s.puts j (omega (arith, fit.0, fit.1))).0 p)
         where
           go : Mem (get_or rs j 0) (found_puts fs) ⊎ Waits ss rs (get_or rs j 0) → Mem (get_or rs j 0) (found_puts fs)
           go (inl m) = m
@@ -221,7 +221,7 @@ module _ (T : Table) (n m : ℕ) (B : Bench) (r : Run T n m B) (i : OrderedAt T 
       first a p = now.unreturned (precedes_returned h c a p)
 
       kind_j : T.kind (get_or rs j 0) ≡ putting
-      kind_j = (all_get_d (λ q. (T.kind q ≡ putting) × Called h q) rs 0 s.puts j (omega (arith, fit.0, fit.1))).0
+      kind_j = (all_get_or (λ q. (T.kind q ≡ putting) × Called h q) rs 0 s.puts j (omega (arith, fit.0, fit.1))).0
 
       before : (a : ℕ) → Precedes h a (get_or rs j 0) → Mem a (found_puts fs) ⊎ Waits ss rs a → Mem a (found_puts fs)
       before a p (inl m) = m

@@ -14,7 +14,7 @@ use Rattle.limits.specs.Operations.{Kind, putting, taking, Table}
 use Rattle.history.specs.History.{Event, call, ret, Called, Returned}
 use Rattle.history.proofs.HistoryLaws.{mem_ret}
 use Rattle.history.proofs.ListLaws.{clash, all_imp, all_mem, all_of_mem, mem_left}
-use Rattle.history.proofs.PrecedenceLists.{all_snoc, all_get_d, pw_snoc, mem_last, set_case, set_any, once_get_or}
+use Rattle.history.proofs.PrecedenceLists.{all_snoc, all_get_or, pw_snoc, mem_last, set_case, set_any, once_get_or}
 use Rattle.history.proofs.PrecedenceLaws.{called_left, returned_new, returned_call, returned_ret}
 use Rattle.order.specs.Order.{found_puts}
 use Rattle.machine.specs.declared.Phase.{Phase}
@@ -222,7 +222,7 @@ module _ (T : Table) (n m : ℕ) (B : Bench) (w : WorkingAt T n B) (s : SlottedA
       low = omega (arith, (s.held j x f).0, s.size)
 
       owner : (T.kind (get_or rs j 0) ≡ putting) × Called h (get_or rs j 0)
-      owner = all_get_d (λ p. (T.kind p ≡ putting) × Called h p) rs 0 s.puts j (s.held j x f).0
+      owner = all_get_or (λ p. (T.kind p ≡ putting) × Called h p) rs 0 s.puts j (s.held j x f).0
 
       up : (o : ℕ) → HasStored T ws h o → HasStored T (set ws t v) h o
       up o st = rw append-nil at (stored_new T ws t here v h [] (λ g. clash (cc)) o st)

@@ -29,9 +29,9 @@ pub drop_sets : (l : List ℕ) (i : ℕ) (vs : List ℕ) (k : ℕ) → i + lengt
 drop_sets l i [] k h = refl
 drop_sets l i (v ∷ vs) k h = drop_sets (set l i v) (suc i) vs k (omega arith) ∙ drop-set-lt k l i v (omega arith)
 
-pub get_d_sets : (l : List ℕ) (i : ℕ) (vs : List ℕ) (k : ℕ) → i + length vs ≤ k → at (sets l i vs) k ≡ at l k
-get_d_sets l i [] k h = refl
-get_d_sets l i (v ∷ vs) k h = get_d_sets (set l i v) (suc i) vs k (omega arith) ∙ get_or-set_other l i k v 0 (λ e. omega arith)
+pub get_or_sets : (l : List ℕ) (i : ℕ) (vs : List ℕ) (k : ℕ) → i + length vs ≤ k → at (sets l i vs) k ≡ at l k
+get_or_sets l i [] k h = refl
+get_or_sets l i (v ∷ vs) k h = get_or_sets (set l i v) (suc i) vs k (omega arith) ∙ get_or-set_other l i k v 0 (λ e. omega arith)
 
 -- what stands before them too
 pub take_sets : (l : List ℕ) (i : ℕ) (vs : List ℕ) → i + length vs ≤ length l → take (i + length vs) (sets l i vs) ≡ take i l ++ vs
@@ -55,7 +55,7 @@ sets_front l vs n e h =
 pub shift_next : (l now : List ℕ) (to k i : ℕ) → to ≤ k → k + i < length l → now ≡ sets l to (take i (drop k l)) → set now (to + i) (at now (k + i)) ≡ sets l to (take (i + 1) (drop k l))
 shift_next l now to k i le lt e =
     let long : length (take i (drop k l)) ≡ i = length-take-le i (drop k l) (omega (arith, length-drop k l)) in
-    let read : at now (k + i) ≡ get_or (drop k l) i 0 = ap (λ (w : List ℕ). at w (k + i)) e ∙ get_d_sets l to (take i (drop k l)) (k + i) (omega arith) ∙ sym (get_or-drop k l i 0) in
+    let read : at now (k + i) ≡ get_or (drop k l) i 0 = ap (λ (w : List ℕ). at w (k + i)) e ∙ get_or_sets l to (take i (drop k l)) (k + i) (omega arith) ∙ sym (get_or-drop k l i 0) in
     rw (read, e) (sets_next l to (drop k l) i (omega (arith, length-drop k l)))
 
 -- ---- parts
