@@ -5,7 +5,6 @@ ghost use Rattle.std.specs.Prelude.{◌≡◌, ◌⊎◌, ℕ, ◌≤◌, ◌<�
 ghost use Rattle.std.specs.Io.KnownBytes.{Consumes, Appends, IsAtEnd};
 ghost use Rattle.answer.specs.Answer.{answer_text};
 
-use listing::Listing;
 use std::io::{self, Read, Write};
 
 // Fills a text from its start until it is full or the input ends, and gives how many bytes were read.
@@ -15,6 +14,7 @@ fn read_full<R: Read>(input: &mut R, text: &mut [u8]) -> io::Result<usize>
     ensures ended { IfOk result (λ n. n < length text.new → IsAtEnd (R.remaining input.new)) }
 {
     let mut done = 0;
+    // A `while`: a turn goes on by as many bytes as were read.
     while done < text.len() {
         let n = input.read(&mut text[done..])?;
         if n == 0 {
@@ -29,7 +29,7 @@ fn read_full<R: Read>(input: &mut R, text: &mut [u8]) -> io::Result<usize>
 fn answered<'a>(text: &[u8], out: &'a mut [u8; 12288]) -> &'a [u8]
     ensures { result.now ≡ answer_text text.now }
 {
-    let Listing::Bytes(m) = answer::answer(text, out) else {
+    let Ok(m) = answer::answer(text, out) else {
         return &out[..0];
     };
     &out[..m]

@@ -2,6 +2,7 @@
 --   Totals     what a schedule adds to the counts
 --   faithful   the whole, for every input that passes refusals 1 to 8 with room for two events an operation
 use mathlib.Core.Path.{◌≡◌, refl, sym, ap, ◌∙◌}
+use Rattle.std.specs.Prelude.{Option, None}
 use mathlib.Core.List.{List, [], ◌∷◌}
 use Prim.Native.Nat.{ℕ, zero, suc, ◌+◌, ◌*◌, ◌≤◌, ◌<◌}
 use native.Mathlib.Nat.{zero-add, add-zero, suc-add, add-suc}
@@ -19,8 +20,9 @@ use Rattle.machine.specs.Bench.{Empty, Bench, idler, step, own_from, resting, st
 use Rattle.machine.specs.StepCounts.{over, idle_step, store_step, swap_step, find_step, fruitless_step}
 use Rattle.machine.specs.Shown.{mark}
 use Rattle.machine.proofs.RunLaws.{run_start, run_step, puts_fit}
-use Rattle.stepping.specs.declared.Core.{Core}
-use Rattle.stepping.specs.Twins.{World, step_world, run_world, world_of, start_state, waiting, play_run}
+use Rattle.stepping.specs.declared.Counts.{Counts}
+use Rattle.stepping.specs.declared.Doing.TheVariants.{Rest}
+use Rattle.stepping.specs.Twins.{World, step_world, run_world, world_of, start_state, play_run}
 use Rattle.stepping.specs.PlanTwin.{plan_from}
 use Rattle.faithful.specs.Views.{Faithful}
 use Rattle.faithful.proofs.ShowLaws.{Shows}
@@ -44,8 +46,8 @@ everywhere d (suc k) zero = refl
 everywhere d (suc k) (suc i) = everywhere d k i
 
 -- the plan's chain of a thread is what its worker has to do
-shows_start : (T : Table) (n m : ℕ) → n ≤ 16 → (first next cs : List ℕ) (vs : List ℤ) → Planned T 0 T.size first next
-    → Shows next T.size n cs vs (start T n m) (world_of (start_state first) cs vs (replicate 64 0) (replicate 64 0))
+shows_start : (T : Table) (n m : ℕ) → n ≤ 16 → (first next : List (Option ℕ)) (cs : List ℕ) (vs : List ℤ) → Planned T 0 T.size first next
+    → Shows next n cs vs (start T n m) (world_of (start_state first) cs vs)
 unfolding start start_state
 shows_start T n m few first next cs vs p = record {
   written = record { count = refl; codes = refl; values = refl };
@@ -53,8 +55,8 @@ shows_start T n m few first next cs vs p = record {
   owned = record { count = refl; size = length-replicate {A = ℕ} 64 0; same = λ i lt. clash (omega arith) };
   found = record { count = refl; takes_size = length-replicate {A = ℕ} 64 0; puts_size = length-replicate {A = ℕ} 64 0; takes = refl; puts = refl };
   busy = record {
-    all = length-map first waiting ∙ p.firsts;
-    does = λ t lt. rw (get_or-map waiting first t 0, resting_at T 0 n t lt, zero-add) (record { phase = refl; current = tt; heads = p.chains t (omega arith) });
+    all = length-map first Rest ∙ p.firsts;
+    does = λ t lt. rw (get_or-map Rest first t None, resting_at T 0 n t lt, zero-add) (record { phase = refl; current = tt; heads = p.chains t (omega arith) });
   };
 }
 
@@ -69,7 +71,7 @@ plan_passed n m thread kind sample schedule p = planned_from (table_of thread ki
 -- ---- a schedule
 
 -- from the bench B, over a schedule, counts c become c'
-pub record Totals (T : Table) (B : Bench) (schedule : List ℕ) (c c' : Core) : Type 0 where
+pub record Totals (T : Table) (B : Bench) (schedule : List ℕ) (c c' : Counts) : Type 0 where
   pub idle : c'.idle ≡ c.idle + over idle_step T B schedule
   pub stores : c'.stores ≡ c.stores + over store_step T B schedule
   pub swaps : c'.swaps ≡ c.swaps + over swap_step T B schedule
@@ -79,7 +81,7 @@ pub record Totals (T : Table) (B : Bench) (schedule : List ℕ) (c c' : Core) : 
 -- step by step: each shows the bench's, and adds what it counts for
 run_shows : (I : Setting) → Roomy I → (schedule : List ℕ) → All (λ t. t < I.threads) schedule → (B : Bench) (w : World) → RunIn I B → ShowsIn I B w
     → ShowsIn I (played (table_in I) B schedule) (run_world I.kind I.sample I.next w schedule)
-    × Totals (table_in I) B schedule w.core (run_world I.kind I.sample I.next w schedule).core
+    × Totals (table_in I) B schedule w.state.counts (run_world I.kind I.sample I.next w schedule).state.counts
 unfolding played run_world over
 run_shows I room [] named B w r s = (s, omega arith)
 run_shows I room (t ∷ schedule) named B w r s =
@@ -89,8 +91,8 @@ run_shows I room (t ∷ schedule) named B w r s =
     (k.0, omega (arith, g.counted, k.1))
 
 -- what is shown at the end, and what was counted on the way
-faithful_of : (T : Table) (n m : ℕ) (schedule : List ℕ) (S B : Bench) (next cs : List ℕ) (vs : List ℤ) (c : Core) (w : World)
-    → Shows next T.size n cs vs B w → Totals T S schedule c w.core → (c.idle + c.stores + c.swaps + c.finds + c.fruitless ≡ 0) → Faithful T n m schedule S B cs vs w
+faithful_of : (T : Table) (n m : ℕ) (schedule : List ℕ) (S B : Bench) (next : List (Option ℕ)) (cs : List ℕ) (vs : List ℤ) (c : Counts) (w : World)
+    → Shows next n cs vs B w → Totals T S schedule c w.state.counts → (c.idle + c.stores + c.swaps + c.finds + c.fruitless ≡ 0) → Faithful T n m schedule S B cs vs w
 faithful_of T n m schedule S B next cs vs c w s k none = record {
   codes = rw (length-map B.history code_of) s.written.codes;
   values = rw (length-map B.history beside) s.written.values;
@@ -115,14 +117,14 @@ pub faithful : (threads slots : ℕ) (thread kind : List ℕ) (sample : List ℤ
     → (cs : List ℕ) (vs : List ℤ) → 2 * length thread ≤ length cs → 2 * length thread ≤ length vs
     → Faithful (table_of thread kind sample) threads slots schedule (start (table_of thread kind sample) threads slots)
     (played (table_of thread kind sample) (start (table_of thread kind sample) threads slots) schedule) cs vs
-    (play_run thread kind sample schedule cs vs (replicate 64 0) (replicate 64 0))
+    (play_run (input_of threads slots thread kind sample schedule) cs vs)
 unfolding play_run start_state
 faithful n m thread kind sample schedule p cs vs lc lv =
     let next = (plan_from 0 thread).next in
     let I : Setting = record { thread = thread; kind = kind; sample = sample; threads = n; slots = m; next = next; cs = cs; vs = vs } in
     let room : Roomy I = record { kinds = p.kinds; few = p.threads_most; small = p.slots_most; puts = puts_fit thread kind sample p.kinds m p.puts; codes = lc; values = lv } in
     let S : Bench = start (table_in I) n m in
-    let w : World = world_of (start_state (plan_from 0 thread).first) cs vs (replicate 64 0) (replicate 64 0) in
+    let w : World = world_of (start_state (plan_from 0 thread).first) cs vs in
     let s : ShowsIn I S w = shows_start (table_in I) n m p.threads_most (plan_from 0 thread).first next cs vs (plan_passed n m thread kind sample schedule p) in
     let k = run_shows I room schedule (all_of_get_or (λ t. t < n) schedule 0 p.named) S w (run_start (table_in I) n m) s in
-    faithful_of (table_in I) n m schedule S (played (table_in I) S schedule) next cs vs w.core (run_world kind sample next w schedule) k.0 k.1 refl
+    faithful_of (table_in I) n m schedule S (played (table_in I) S schedule) next cs vs w.state.counts (run_world kind sample next w schedule) k.0 k.1 refl

@@ -3,20 +3,20 @@
 use mathlib.Core.Path.{◌≡◌, refl, sym, ap, ◌∙◌, subst}
 use mathlib.Core.Logic.{◌≢◌}
 use mathlib.Core.Bool.{Bool, true, false, cond}
+use Rattle.std.specs.Prelude.{Option, Some, None}
 use mathlib.Core.List.{List, [], ◌∷◌}
 use Prim.Native.Nat.{ℕ, zero, suc, ◌+◌, ◌≤◌, ◌<◌}
 use native.Mathlib.Decide.{ℕ_discrete}
 use native.Mathlib.Nat.{add-zero, suc-add, add-suc}
 use native.Mathlib.Omega.{arith}
-use lib.Dec.{ltb, eqb}
+use lib.Dec.{eqb}
 use lib.ListN.{length, get_or, set, length-set, length-replicate, get_or-replicate}
 use lib.Seq.{get_or-set_same, get_or-set_other}
-use borrow.Author.Tests.{lt-ltb, eq-eqb, ne_eqb}
+use borrow.Author.Tests.{eq-eqb, ne_eqb}
 use Rattle.limits.specs.Lists.{All}
 use Rattle.limits.specs.Operations.{Table}
 use Rattle.history.proofs.ListLaws.{all_imp}
 use Rattle.machine.specs.Bench.{own_from}
-use Rattle.stepping.specs.Twins.{next_in}
 use Rattle.stepping.specs.PlanTwin.{plan_from}
 use Rattle.faithful.proofs.ShowLaws.{Heads}
 
@@ -30,52 +30,44 @@ own_later T t k (suc m) = go (eqb (T.thread k) t) (all_imp (λ o h. omega arith)
     go true h = (omega arith, h)
     go false h = h
 
--- another operation's next one is not touched
-next_other : (next : List ℕ) (k v o : ℕ) → o ≢ k → next_in (set next k v) o ≡ next_in next o
-next_other next k v o ne = ap (λ z. cond (ltb o 128) z 255) (get_or-set_other next k o v 0 ne)
-
--- and what is set is its own
-next_same : (next : List ℕ) (k v : ℕ) → length next ≡ 128 → k < 128 → next_in (set next k v) k ≡ v
-next_same next k v all lt = rw (lt-ltb k 128 lt) (get_or-set_same next k v 0 (omega arith))
-
 -- a chain is not touched by what is set for an operation that it does not have
-heads_other : (next : List ℕ) (size k v o : ℕ) (todo : List ℕ) → All (λ q. suc k ≤ q) todo → Heads next size o todo → Heads (set next k v) size o todo
-heads_other next size k v o [] later h = h
-heads_other next size k v o (q ∷ todo) later h =
-    let ne : o ≢ k = λ e. absurd (omega (arith, later.0, h.0)) in
-    (h.0, h.1, rw (next_other next k v o ne) (heads_other next size k v (next_in next o) todo later.1 h.2))
+heads_other : (next : List (Option ℕ)) (k : ℕ) (v o : Option ℕ) (todo : List ℕ) → All (λ q. suc k ≤ q) todo → Heads next o todo → Heads (set next k v) o todo
+heads_other next k v o [] later h = h
+heads_other next k v o (q ∷ todo) later h =
+    let ne : q ≢ k = λ e. absurd (omega (arith, later.0)) in
+    (h.0, rw (get_or-set_other next k q v None ne) (heads_other next k v (get_or next q None) todo later.1 h.1))
 
 -- `first` has each thread's first operation, `next` each operation's next one of its thread, among the m operations from k on
-pub record Planned (T : Table) (k m : ℕ) (first next : List ℕ) : Type 0 where
+pub record Planned (T : Table) (k m : ℕ) (first next : List (Option ℕ)) : Type 0 where
   pub firsts : length first ≡ 16
   pub nexts : length next ≡ 128
-  pub chains : (t : ℕ) → t < 16 → Heads next T.size (get_or first t 0) (own_from T t k m)
+  pub chains : (t : ℕ) → t < 16 → Heads next (get_or first t None) (own_from T t k m)
 
 -- operation k, of thread x, in front: it becomes the first of x's chain and of no other
-module _ (T : Table) (few : T.size ≤ 128) (k m x : ℕ) (small : k < T.size) (own : T.thread k ≡ x) (lx : x < 16) (first next : List ℕ) (h : Planned T (suc k) m first next) where
-  abbrev next' : List ℕ
-  next' = set next k (get_or first x 0)
+module _ (T : Table) (few : T.size ≤ 128) (k m x : ℕ) (small : k < T.size) (own : T.thread k ≡ x) (lx : x < 16) (first next : List (Option ℕ)) (h : Planned T (suc k) m first next) where
+  abbrev next' : List (Option ℕ)
+  next' = set next k (get_or first x None)
 
   -- the rest of every chain stands as it did
-  chain_rest : (t : ℕ) → t < 16 → Heads next' T.size (get_or first t 0) (own_from T t (suc k) m)
-  chain_rest t lt = heads_other next T.size k (get_or first x 0) (get_or first t 0) (own_from T t (suc k) m) (own_later T t (suc k) m) (h.chains t lt)
+  chain_rest : (t : ℕ) → t < 16 → Heads next' (get_or first t None) (own_from T t (suc k) m)
+  chain_rest t lt = heads_other next k (get_or first x None) (get_or first t None) (own_from T t (suc k) m) (own_later T t (suc k) m) (h.chains t lt)
 
   -- x's chain begins with k, and goes on as it did; every other is as it was
-  chain_one : (t : ℕ) → t < 16 → Dec (t ≡ x) → Heads next' T.size (get_or (set first x k) t 0) (own_from T t k (suc m))
+  chain_one : (t : ℕ) → t < 16 → Dec (t ≡ x) → Heads next' (get_or (set first x (Some k)) t None) (own_from T t k (suc m))
   unfolding own_from
   chain_one t lt (yes e) =
-      let front : get_or (set first x k) t 0 ≡ k = ap (λ (s : ℕ). get_or (set first x k) s 0) e ∙ get_or-set_same first x k 0 (omega (arith, h.firsts)) in
-      let rest = subst (λ (s : ℕ). Heads next' T.size (get_or first s 0) (own_from T t (suc k) m)) e (chain_rest t lt) in
+      let front : get_or (set first x (Some k)) t None ≡ Some k = ap (λ (s : ℕ). get_or (set first x (Some k)) s None) e ∙ get_or-set_same first x (Some k) None (omega (arith, h.firsts)) in
+      let rest = subst (λ (s : ℕ). Heads next' (get_or first s None) (own_from T t (suc k) m)) e (chain_rest t lt) in
       rw (eq-eqb (T.thread k) t (own ∙ sym e), front)
-      (refl, small, rw (next_same next k (get_or first x 0) h.nexts (omega arith)) rest)
+      (refl, rw (get_or-set_same next k (get_or first x None) None (omega (arith, h.nexts))) rest)
   chain_one t lt (no ne) =
-      rw (ne_eqb (T.thread k) t (λ e. ne (sym (sym own ∙ e))), get_or-set_other first x t k 0 ne) (chain_rest t lt)
+      rw (ne_eqb (T.thread k) t (λ e. ne (sym (sym own ∙ e))), get_or-set_other first x t (Some k) None ne) (chain_rest t lt)
 
   -- the lists keep their lengths
-  planned_one : Planned T k (suc m) (set first x k) next'
+  planned_one : Planned T k (suc m) (set first x (Some k)) next'
   planned_one = record {
-    firsts = length-set first x k ∙ h.firsts;
-    nexts = length-set next k (get_or first x 0) ∙ h.nexts;
+    firsts = length-set first x (Some k) ∙ h.firsts;
+    nexts = length-set next k (get_or first x None) ∙ h.nexts;
     chains = λ t lt. chain_one t lt (ℕ_discrete t x);
   }
 
@@ -84,9 +76,9 @@ pub planned_from : (T : Table) → T.size ≤ 128 → (k : ℕ) (l : List ℕ) �
     → ((i : ℕ) → i < length l → (T.thread (k + i) ≡ get_or l i 0) × (get_or l i 0 < 16)) → Planned T k (length l) (plan_from k l).first (plan_from k l).next
 unfolding plan_from own_from
 planned_from T few k [] whole named = record {
-  firsts = length-replicate {A = ℕ} 16 255;
-  nexts = length-replicate {A = ℕ} 128 255;
-  chains = λ t lt. rw (get_or-replicate {A = ℕ} 16 t 255 0 lt) (omega arith);
+  firsts = length-replicate {A = Option ℕ} 16 None;
+  nexts = length-replicate {A = Option ℕ} 128 None;
+  chains = λ t lt. get_or-replicate {A = Option ℕ} 16 t None None lt;
 }
 planned_from T few k (x ∷ l) whole named =
     planned_one T few k (length l) x (omega arith) (rw add-zero at (named 0 (omega arith)).0) (named 0 (omega arith)).1 (plan_from (suc k) l).first (plan_from (suc k) l).next

@@ -5,6 +5,7 @@
 --   Shows     all five
 --   Counted   what one step adds to the counts
 use mathlib.Core.Path.{◌≡◌, sym, ap, ◌∙◌}
+use Rattle.std.specs.Prelude.{Option, Some, None}
 use mathlib.Core.List.{List, [], ◌∷◌, ◌++◌, map, append_assoc}
 use Prim.Native.Nat.{ℕ, suc, ◌+◌, ◌≤◌, ◌<◌}
 use native.Mathlib.Omega.{arith}
@@ -19,27 +20,26 @@ use Rattle.machine.specs.StepCounts.{idle_in, store_in, scan_in, met, missed_las
 use Rattle.machine.specs.Shown.{mark}
 use Rattle.stepping.specs.declared.Doing.{Doing}
 use Rattle.stepping.specs.declared.Doing.TheVariants.{Rest, CalledPut, Reserved, Stored, CalledTake, Scanning, Holding}
-use Rattle.stepping.specs.declared.Thread.{Thread}
-use Rattle.stepping.specs.declared.Core.{Core}
-use Rattle.stepping.specs.Twins.{World, resting, next_in}
+use Rattle.stepping.specs.declared.Counts.{Counts}
+use Rattle.stepping.specs.Twins.{World, resting}
 use Rattle.faithful.specs.Views.{phase_of}
 
 -- ---- what a thread does
 
--- operation o is the first of todo, the next after o the second, and so on; past the table there is none
-abbrev pub Heads : List ℕ → ℕ → ℕ → List ℕ → Type 0
-Heads next size o [] = size ≤ o
-Heads next size o (q ∷ todo) = (q ≡ o) × (o < size) × Heads next size (next_in next o) todo
+-- operation o is the first of todo, the next after o the second, and so on; after the last there is none
+abbrev pub Heads : List (Option ℕ) → Option ℕ → List ℕ → Type 0
+Heads next o [] = o ≡ None
+Heads next o (q ∷ todo) = (o ≡ Some q) × Heads next (get_or next q None) todo
 
 -- the operation that the thread calls next
-abbrev pub head_of : List ℕ → Doing → ℕ
+abbrev pub head_of : List (Option ℕ) → Doing → Option ℕ
 head_of next (Rest o) = o
-head_of next (CalledPut o) = next_in next o
-head_of next (Reserved i o) = next_in next o
-head_of next (Stored o) = next_in next o
-head_of next (CalledTake o) = next_in next o
-head_of next (Scanning j b o) = next_in next o
-head_of next (Holding o x) = next_in next o
+head_of next (CalledPut o) = get_or next o None
+head_of next (Reserved i o) = get_or next o None
+head_of next (Stored o) = get_or next o None
+head_of next (CalledTake o) = get_or next o None
+head_of next (Scanning j b o) = get_or next o None
+head_of next (Holding o x) = get_or next o None
 
 -- the operation that the thread works on is c
 abbrev pub WorksOn : Doing → ℕ → Type 0
@@ -52,10 +52,10 @@ WorksOn (Scanning j b o) c = c ≡ o
 WorksOn (Holding o x) c = c ≡ o
 
 -- phase, operation at work and operations still to do are the same
-pub record Does (next : List ℕ) (size : ℕ) (d : Doing) (v : Worker) : Type 0 where
+pub record Does (next : List (Option ℕ)) (d : Doing) (v : Worker) : Type 0 where
   pub phase : v.phase ≡ phase_of d
   pub current : WorksOn d v.current
-  pub heads : Heads next size (head_of next d) v.todo
+  pub heads : Heads next (head_of next d) v.todo
 
 -- ---- the parts
 
@@ -85,20 +85,20 @@ pub record Found (fs : List (ℕ × ℕ)) (n : ℕ) (ts ps : List ℕ) : Type 0 
   pub puts : take (length fs) ps ≡ map (λ f. f.1) fs
 
 -- each of the n threads
-pub record Busy (next : List ℕ) (size n : ℕ) (ws : List Worker) (threads : List Thread) : Type 0 where
+pub record Busy (next : List (Option ℕ)) (n : ℕ) (ws : List Worker) (threads : List Doing) : Type 0 where
   pub all : length threads ≡ 16
-  pub does : (t : ℕ) → t < n → Does next size (get_or threads t resting).doing (get_or ws t idler)
+  pub does : (t : ℕ) → t < n → Does next (get_or threads t resting) (get_or ws t idler)
 
 -- a world and a bench
-pub record Shows (next : List ℕ) (size n : ℕ) (cs : List ℕ) (vs : List ℤ) (B : Bench) (w : World) : Type 0 where
-  pub written : Written cs vs B.history w.core.events w.codes w.values
-  pub marked : Marked B.slots w.marks
-  pub owned : Owned B.reservations w.core.back w.owners
-  pub found : Found B.finds w.core.finds w.takes w.puts
-  pub busy : Busy next size n B.workers w.threads
+pub record Shows (next : List (Option ℕ)) (n : ℕ) (cs : List ℕ) (vs : List ℤ) (B : Bench) (w : World) : Type 0 where
+  pub written : Written cs vs B.history w.state.counts.events w.codes w.values
+  pub marked : Marked B.slots w.state.marks
+  pub owned : Owned B.reservations w.state.counts.back w.state.owners
+  pub found : Found B.finds w.state.counts.finds w.state.takes w.state.puts
+  pub busy : Busy next n B.workers w.state.threads
 
 -- of a step from phase p, with operations still to do and slots as they are before it
-pub record Counted (todo : List ℕ) (ss : List Slot) (p : Phase) (c c' : Core) : Type 0 where
+pub record Counted (todo : List ℕ) (ss : List Slot) (p : Phase) (c c' : Counts) : Type 0 where
   pub idle : c'.idle ≡ c.idle + idle_in todo p
   pub stores : c'.stores ≡ c.stores + store_in p
   pub swaps : c'.swaps ≡ c.swaps + scan_in (λ j b s. 1) ss p
@@ -159,23 +159,19 @@ found_grow fs n takes puts o p lt h = record {
 
 -- ---- threads
 
--- a thread of the code that does d
-abbrev pub doer : Doing → Thread
-doer d = record { doing = d }
-
-module _ (next : List ℕ) (size n : ℕ) (ws : List Worker) (threads : List Thread) (few : n ≤ 16) (i : Busy next size n ws threads) (t : ℕ) (lt : t < n) where
+module _ (next : List (Option ℕ)) (n : ℕ) (ws : List Worker) (threads : List Doing) (few : n ≤ 16) (i : Busy next n ws threads) (t : ℕ) (lt : t < n) where
   -- thread and worker are set together
-  pub busy_set : length ws ≡ n → (d : Doing) (v : Worker) → Does next size d v → Busy next size n (set ws t v) (set threads t (doer d))
+  pub busy_set : length ws ≡ n → (d : Doing) (v : Worker) → Does next d v → Busy next n (set ws t v) (set threads t d)
   busy_set all d v h = record {
-    all = length-set threads t (doer d) ∙ i.all;
-    does = λ q lq. set_case ws t v idler q (λ z. Does next size (get_or (set threads t (doer d)) q resting).doing z) (omega arith)
-        (λ e. rw (e, get_or-set_same threads t (doer d) resting (omega (arith, i.all))) h)
-        (λ ne. rw (get_or-set_other threads t q (doer d) resting ne) (i.does q lq));
+    all = length-set threads t d ∙ i.all;
+    does = λ q lq. set_case ws t v idler q (λ z. Does next (get_or (set threads t d) q resting) z) (omega arith)
+        (λ e. rw (e, get_or-set_same threads t d resting (omega (arith, i.all))) h)
+        (λ ne. rw (get_or-set_other threads t q d resting ne) (i.does q lq));
   }
 
   -- the worker stays as it was
-  pub busy_keep : (d : Doing) → Does next size d (get_or ws t idler) → Busy next size n ws (set threads t (doer d))
+  pub busy_keep : (d : Doing) → Does next d (get_or ws t idler) → Busy next n ws (set threads t d)
   busy_keep d h = record {
-    all = length-set threads t (doer d) ∙ i.all;
-    does = λ q lq. set_case threads t (doer d) resting q (λ z. Does next size z.doing (get_or ws q idler)) (omega (arith, i.all)) (λ e. rw e h) (λ ne. i.does q lq);
+    all = length-set threads t d ∙ i.all;
+    does = λ q lq. set_case threads t d resting q (λ z. Does next z (get_or ws q idler)) (omega (arith, i.all)) (λ e. rw e h) (λ ne. i.does q lq);
   }

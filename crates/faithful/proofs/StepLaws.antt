@@ -29,7 +29,7 @@ module _ (I : Setting) (B : Bench) (w : World) (t : ℕ) (g : Stage I B w t) whe
   pub goes_step : Goes I B w t (worker_at B t).phase (step (table_in I) B t) (step_world I.kind I.sample I.next w t)
   unfolding step step_world
   goes_step =
-      let d : Doing = (get_or w.threads t resting).doing in
+      let d : Doing = (get_or w.state.threads t resting) in
       let h = g.shows.busy.does t g.named in
       let after = run_step (table_in I) I.threads I.slots g.room.puts B t g.named g.run in
       subst (λ (p : Phase). Goes I B w t p (step_from (table_in I) B t (worker_at B t) p) (turn_from I w t d)) (sym h.phase)

@@ -25,15 +25,15 @@ phase_of (D.Holding o x) = P.Holding x
 pub record Faithful (T : Table) (threads slots : ℕ) (schedule : List ℕ) (S B : Bench) (cs : List ℕ) (vs : List ℤ) (w : World) : Type 0 where
   pub codes : w.codes ≡ codes B ++ drop (length (codes B)) cs
   pub values : w.values ≡ samples B ++ drop (length (samples B)) vs
-  pub phases : (t : ℕ) → t < threads → phase_of (get_or w.threads t resting).doing ≡ (worker_at B t).phase
-  pub marks : (i : ℕ) → i < slots → get_or w.marks i 0 ≡ mark (get_or B.slots i Empty)
-  pub owners : (i : ℕ) → i < back B → get_or w.owners i 0 ≡ get_or B.reservations i 0
-  pub takes : take (length B.finds) w.takes ≡ map (λ f. f.0) B.finds
-  pub puts : take (length B.finds) w.puts ≡ map (λ f. f.1) B.finds
-  pub back : w.core.back ≡ back B
-  pub events : w.core.events ≡ length B.history
-  pub idle : w.core.idle ≡ over idle_step T S schedule
-  pub stores : w.core.stores ≡ over store_step T S schedule
-  pub swaps : w.core.swaps ≡ over swap_step T S schedule
-  pub finds : w.core.finds ≡ over find_step T S schedule
-  pub fruitless : w.core.fruitless ≡ over fruitless_step T S schedule
+  pub phases : (t : ℕ) → t < threads → phase_of (get_or w.state.threads t resting) ≡ (worker_at B t).phase
+  pub marks : (i : ℕ) → i < slots → get_or w.state.marks i 0 ≡ mark (get_or B.slots i Empty)
+  pub owners : (i : ℕ) → i < back B → get_or w.state.owners i 0 ≡ get_or B.reservations i 0
+  pub takes : take (length B.finds) w.state.takes ≡ map (λ f. f.0) B.finds
+  pub puts : take (length B.finds) w.state.puts ≡ map (λ f. f.1) B.finds
+  pub back : w.state.counts.back ≡ back B
+  pub events : w.state.counts.events ≡ length B.history
+  pub idle : w.state.counts.idle ≡ over idle_step T S schedule
+  pub stores : w.state.counts.stores ≡ over store_step T S schedule
+  pub swaps : w.state.counts.swaps ≡ over swap_step T S schedule
+  pub finds : w.state.counts.finds ≡ over find_step T S schedule
+  pub fruitless : w.state.counts.fruitless ≡ over fruitless_step T S schedule

@@ -11,7 +11,9 @@ use lib.Dec.{eqb}
 use lib.IntN.{ℤ, pos}
 use lib.ListN.{length, get_or, take, length-map, get_or-map}
 use Rattle.limits.specs.Lists.{All, Mem}
-use Rattle.limits.specs.Operations.{Kind, putting, taking, Table}
+use Rattle.limits.specs.declared.Kind.{Kind}
+use Rattle.limits.specs.declared.Kind.TheVariants.{Put as putting, Take as taking}
+use Rattle.limits.specs.Operations.{Table}
 use Rattle.history.specs.History.{Event, call, ret, Called, Returned, Precedes, code_of, beside, answer, event_of, events}
 use Rattle.history.specs.Standing.{CanStand, StandsAfter, Stands}
 use Rattle.history.proofs.HistoryLaws.{Right}

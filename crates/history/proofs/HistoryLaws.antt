@@ -6,7 +6,9 @@ use mathlib.Core.Option.{Option, none}
 use Prim.Native.Nat.{ℕ, ◌<◌}
 use lib.IntN.{ℤ}
 use Rattle.limits.specs.Lists.{All, Mem, Pw}
-use Rattle.limits.specs.Operations.{Kind, putting, Table}
+use Rattle.limits.specs.declared.Kind.{Kind}
+use Rattle.limits.specs.declared.Kind.TheVariants.{Put as putting}
+use Rattle.limits.specs.Operations.{Table}
 use Rattle.history.specs.History.{Event, call, ret, Called, Returned, Precedes, beside, answer}
 use Rattle.history.specs.Standing.{CanStand, StandsAfter, Stands}
 use Rattle.history.proofs.ListLaws.{clash, all_mem, mem_left, mem_right}

@@ -7,7 +7,9 @@
 --   event_of, events  the events that codes and samples give
 use Rattle.std.specs.Prelude.{◌≡◌, ◌⊎◌, List, [], ◌∷◌, cond, ℕ, ◌+◌, ◌*◌, ◌/◌, ◌%◌, eqb, ℤ, pos}
 use Rattle.std.proofs.Math.Option.{Option, none, some}
-use Rattle.limits.specs.Operations.{Kind, putting, taking, Table}
+use Rattle.limits.specs.declared.Kind.{Kind}
+use Rattle.limits.specs.declared.Kind.TheVariants.{Put as putting, Take as taking}
+use Rattle.limits.specs.Operations.{Table}
 
 pub data Event : Type 0 where
   call : ℕ → Event

@@ -2,7 +2,8 @@
 --   CanStand T old e x   the event e, with sample x beside it, can stand after the events `old`
 --   Stands T h           each event of h can stand where it does, with the sample that belongs beside it
 use Rattle.std.specs.Prelude.{◌≡◌, List, [], ◌∷◌, ◌++◌, ℕ, ◌<◌, ℤ, pos}
-use Rattle.limits.specs.Operations.{putting, Table}
+use Rattle.limits.specs.declared.Kind.TheVariants.{Put as putting}
+use Rattle.limits.specs.Operations.{Table}
 use Rattle.history.specs.History.{Event, call, ret, Called, Returned, beside}
 
 -- not if the operation number is too high;

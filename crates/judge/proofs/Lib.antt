@@ -1,8 +1,7 @@
-pub mod JudgedLaws
-pub mod RefusalLaws
-pub mod PlayLaws
-pub mod ConditionLaws
-pub mod IndexLaws
-pub mod StandLaws
-pub mod MarkLaws
 pub mod QueueLaws
+pub mod MarkLaws
+pub mod StandLaws
+pub mod RefusalLaws
+pub mod ConditionLaws
+pub mod PlayLaws
+pub mod JudgedLaws

@@ -2,7 +2,9 @@
 use Rattle.std.specs.Prelude.{◌≡◌, refl, List, ℕ, zero, suc, ◌<◌, ℤ, pos, get_or, take}
 use Rattle.std.proofs.Math.Decide.{ℕ_discrete, dec_lt}
 use Rattle.std.proofs.Common.{arith}
-use Rattle.limits.specs.Operations.{Kind, putting, taking, Table}
+use Rattle.limits.specs.declared.Kind.{Kind}
+use Rattle.limits.specs.declared.Kind.TheVariants.{Put, Take}
+use Rattle.limits.specs.Operations.{Table}
 use Rattle.history.specs.History.{Event, call, ret, Returned, event_of, events}
 use Rattle.history.specs.Decide.{both?, called?}
 use Rattle.history.specs.Standing.{CanStand}
@@ -26,12 +28,12 @@ abbrev pub below? : (P : ℕ → Type 0) → ((i : ℕ) → Dec (P i)) → (n : 
 below? P d zero = yes (below_none P)
 below? P d (suc n) = through? (below_next P n) (below_split P n) (both? (below? P d n) (d n))
 
-pub put_take : taking ≡ putting → ⊥
+pub put_take : Take ≡ Put → ⊥
 put_take e = let z : ◌≡◌ {A = ℕ} 0 1 = cc in omega arith
 
-abbrev pub put? : (k : Kind) → Dec (k ≡ putting)
-put? putting = yes refl
-put? taking = no put_take
+abbrev pub put? : (k : Kind) → Dec (k ≡ Put)
+put? Put = yes refl
+put? Take = no put_take
 
 abbrev pub four? : {A B C D : Type 0} → Dec A → Dec B → Dec C → Dec D → Dec (A × B × C × D)
 four? a b c d = through? (λ r. (r.0, r.1.0, r.1.1.0, r.1.1.1)) (λ r. (r.0, (r.1, (r.2, r.3)))) (both? a (both? b (both? c d)))

@@ -2,17 +2,16 @@
 --   fails          whether a decision is against
 --   judge_refusal  the lowest refusal that applies, or none
 --   judged         the refusal, or the verdict
-use Rattle.std.specs.Prelude.{Bool, true, false, ◌&&◌, List, ℕ, leb, eqb, ℤ, length}
+use Rattle.limits.specs.Refusals.{Fit}
+use Rattle.limits.specs.declared.Refusal.{Refusal}
+use Rattle.linear.specs.declared.Verdict.{Verdict}
+use Rattle.std.specs.Prelude.{Bool, true, false, ◌&&◌, List, ℕ, leb, eqb, ℤ, length, Err, Ok, Result}
 use Rattle.limits.specs.declared.Refusal.TheVariants.{Threads, Lengths, Operations, Operation, Event}
-use Rattle.limits.specs.declared.Fit.{Fit}
-use Rattle.limits.specs.declared.Fit.TheVariants.{Pass}
 use Rattle.limits.specs.Lists.{lowest}
 use Rattle.limits.specs.Operations.{table_of}
 use Rattle.limits.specs.Refusals.{unless, unless_at, by_fit, within, together, unfit_at}
 use Rattle.history.specs.History.{events}
 use Rattle.linear.specs.Verdict.{verdict}
-use Rattle.judge.specs.declared.Judged.{Judged}
-use Rattle.judge.specs.declared.Judged.TheVariants.{Says, Refused}
 use Rattle.judge.specs.Decide.{stands?}
 
 abbrev pub fails : {P : Type 0} → Dec P → Bool
@@ -27,8 +26,8 @@ judge_refusal threads thread kind sample codes samples =
     (unless (leb (length thread) 128) Operations
     (unless_at (lowest (unfit_at threads thread kind sample) (length thread)) Operation
     (unless_at (lowest (λ i. fails (stands? (table_of thread kind sample) codes samples i)) (length codes)) Event
-    Pass))))
+    (Ok tt)))))
 
-unfoldable pub judged : ℕ → List ℕ → List ℕ → List ℤ → List ℕ → List ℤ → List ℕ → Judged
+unfoldable pub judged : ℕ → List ℕ → List ℕ → List ℤ → List ℕ → List ℤ → List ℕ → Result Verdict Refusal
 judged threads thread kind sample codes samples order =
-    let T = table_of thread kind sample in by_fit (judge_refusal threads thread kind sample codes samples) (Says (verdict T (events T codes samples) order)) Refused
+    let T = table_of thread kind sample in by_fit (judge_refusal threads thread kind sample codes samples) (Ok (verdict T (events T codes samples) order)) Err

@@ -1,4 +1,5 @@
 pub mod Stand
 pub mod Decide
+pub mod Queue
 pub mod Judge
 pub mod Marks

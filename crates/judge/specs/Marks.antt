@@ -1,82 +1,87 @@
 -- What the judge's private functions keep and tell, in terms of their own lists. Nothing here has to be believed: the public contract names none of it.
---   Tells P b          b is true if P holds, and false if it does not
---   Marked cs n marks  `marks` has, at each code among the first n of cs, one more than its position, and 0 elsewhere
---   Inside, Below      the marks are positions; the entries are small
---   CodeStands         the next event, as a code and a sample, can stand
---   Read               how far a history was read, and its marks
+--   Fitting            a table of at most 128 operations, its three lists of one length
+--   called, returned   where the marks say that an operation was called, and that it returned
+--   EventStands        the next event can stand, with the sample beside it
+--   ReadTo, Reads      a history read so far; read to its end, or refused
 --   Free20 .. PlaysOn  the five conditions over the marks
 --   Finds              the first fault, by them
 --   event_refusal      refusal 10 at the lowest event that cannot stand, or none
---   or_else            the refusal; the verdict, if there is none
---   history_judged     the answer for a table that passes
---   window, queue_of   the samples that a queue holds, the front first
-use Rattle.std.specs.Prelude.{◌≡◌, ◌≢◌, Bool, true, false, List, [], ◌∷◌, ◌++◌, ℕ, zero, suc, ◌+◌, ◌*◌, ◌/◌, ◌%◌, ◌≤◌, ◌<◌, ℤ, pos, length, get_or}
-use Rattle.limits.specs.declared.Refusal.TheVariants.{Event}
-use Rattle.limits.specs.declared.Fit.{Fit}
-use Rattle.limits.specs.declared.Fit.TheVariants.{Pass}
+use Rattle.std.specs.Prelude.{◌≡◌, ◌≢◌, List, [], ℕ, ◌≤◌, ◌<◌, ℤ, pos, length, get_or, Option, Some, None, Result, Ok, Err}
+use Rattle.limits.specs.declared.Kind.TheVariants.{Put}
+use Rattle.limits.specs.declared.Refusal.{Refusal}
+use Rattle.limits.specs.declared.Refusal.TheVariants.{Event as AtEvent}
 use Rattle.limits.specs.Lists.{lowest}
-use Rattle.limits.specs.Operations.{kind_of, table_of}
-use Rattle.limits.specs.Refusals.{unless_at, by_fit}
+use Rattle.limits.specs.Operations.{Table, table_of}
+use Rattle.limits.specs.Parts.{IsEven}
+use Rattle.limits.specs.Refusals.{Fit, unless_at}
+use Rattle.history.specs.declared.Event.{Event}
+use Rattle.history.specs.declared.Event.TheVariants.{Call, Return}
+use Rattle.history.specs.Codes.{event_code}
 use Rattle.linear.specs.declared.Verdict.{Verdict}
 use Rattle.linear.specs.declared.Verdict.TheVariants.{Linear, NoOperation, Uncalled, Missing, Turned, Unplayable}
 use Rattle.linear.specs.Conditions.{Plays}
-use Rattle.linear.specs.Verdict.{verdict}
-use Rattle.history.specs.History.{events}
-use Rattle.judge.specs.declared.Judged.{Judged}
-use Rattle.judge.specs.declared.Judged.TheVariants.{Says, Refused}
-use Rattle.judge.specs.declared.Reading.{Reading}
-use Rattle.judge.specs.declared.Queue.{Queue}
+use Rattle.limits.specs.declared.Table.{Table as Operations}
+use Rattle.judge.specs.declared.History.{History}
+use Rattle.judge.specs.declared.marks.Marks.{Marks}
 use Rattle.judge.specs.Stand.{StandsAt}
 use Rattle.judge.specs.Decide.{stands?}
 use Rattle.judge.specs.Judge.{fails}
 
-pub record Tells (P : Type 0) (b : Bool) : Type 0 where
-  pub so : b ≡ true → P
-  pub not_so : b ≡ false → ¬ P
+-- ---- the table and the marks
+
+abbrev pub table_in : Operations → Table
+table_in t = table_of t.thread.now t.kind.now t.sample.now
+
+pub record Fitting (t : Operations) : Type 0 where
+  pub few : length t.thread.now ≤ 128
+  pub even : IsEven t
+
+-- where an event stands, if it was read
+abbrev pub place_of : Marks → Event → Option ℕ
+place_of m (Call o) = get_or m.calls o None
+place_of m (Return o) = get_or m.returns o None
+
+abbrev pub called : Marks → ℕ → Option ℕ
+called m o = place_of m (Call o)
+
+abbrev pub returned : Marks → ℕ → Option ℕ
+returned m o = place_of m (Return o)
 
 -- ---- a history read
 
--- each way
-pub record Marked (cs : List ℕ) (n : ℕ) (marks : List ℕ) : Type 0 where
-  pub to : (j : ℕ) → j < n → get_or marks (get_or cs j 0) 0 ≡ suc j
-  pub of : (c j : ℕ) → get_or marks c 0 ≡ suc j → (j < n) × (get_or cs j 0 ≡ c)
-
--- every mark is a position of one of the samples
-abbrev pub Inside : List ℕ → List ℤ → Type 0
-Inside marks xs = (c k : ℕ) → get_or marks c 0 ≡ suc k → k < length xs
-
--- every entry is below n
-abbrev pub Below : ℕ → List ℕ → Type 0
-Below n l = (j : ℕ) → j < length l → get_or l j 0 < n
-
 -- every earlier operation of the thread of o has returned
-abbrev pub EarlierBack : List ℕ → List ℕ → ℕ → Type 0
-EarlierBack thread marks o = (p : ℕ) → p < o → get_or thread p 0 ≡ get_or thread o 0 → get_or marks (2 * p + 1) 0 ≢ 0
+abbrev pub EarlierBack : Operations → Marks → ℕ → Type 0
+EarlierBack t m o = (p : ℕ) → p < o → get_or t.thread.now p 0 ≡ get_or t.thread.now o 0 → returned m p ≢ None
 
 -- a call of o
-pub record CallStands (thread marks : List ℕ) (o : ℕ) (x : ℤ) : Type 0 where
-  pub fresh : get_or marks (2 * o) 0 ≡ 0
+pub record CallStands (t : Operations) (m : Marks) (o : ℕ) (x : ℤ) : Type 0 where
+  pub fresh : called m o ≡ None
   pub blank : x ≡ pos 0
-  pub earlier : EarlierBack thread marks o
+  pub earlier : EarlierBack t m o
 
 -- a return of o
-pub record ReturnStands (kind marks : List ℕ) (o : ℕ) (x : ℤ) : Type 0 where
-  pub called : get_or marks (2 * o) 0 ≢ 0
-  pub fresh : get_or marks (2 * o + 1) 0 ≡ 0
-  pub blank : get_or kind o 0 ≡ 1 → x ≡ pos 0
+pub record ReturnStands (t : Operations) (m : Marks) (o : ℕ) (x : ℤ) : Type 0 where
+  pub called : called m o ≢ None
+  pub fresh : returned m o ≡ None
+  pub blank : (table_in t).kind o ≡ Put → x ≡ pos 0
 
--- either, by the code
-pub record CodeStands (thread kind marks : List ℕ) (c : ℕ) (x : ℤ) : Type 0 where
-  pub small : c / 2 < length thread
-  pub calls : c % 2 ≡ 0 → CallStands thread marks (c / 2) x
-  pub returns : c % 2 ≢ 0 → ReturnStands kind marks (c / 2) x
+abbrev pub EventStands : Operations → Marks → Event → ℤ → Type 0
+EventStands t m (Call o) x = (o < length t.thread.now) × CallStands t m o x
+EventStands t m (Return o) x = (o < length t.thread.now) × ReturnStands t m o x
 
--- read to the end, or up to the first event that cannot stand
-pub record Read (thread kind : List ℕ) (sample : List ℤ) (cs : List ℕ) (xs : List ℤ) (r : Reading) : Type 0 where
-  pub inside : r.end ≤ length cs
-  pub marked : Marked cs r.end r.marks
-  pub stand : (j : ℕ) → j < r.end → StandsAt (table_of thread kind sample) cs xs j
-  pub stops : r.end < length cs → ¬ StandsAt (table_of thread kind sample) cs xs r.end
+unfoldable pub event_refusal : List ℕ → List ℕ → List ℤ → List ℕ → List ℤ → Fit
+event_refusal thread kind sample codes samples =
+    unless_at (lowest (λ i. fails (stands? (table_of thread kind sample) codes samples i)) (length codes)) AtEvent (Ok tt)
+
+-- m has the positions of the first n events, and no other; and each of these events can stand
+pub record ReadTo (t : Operations) (h : History) (n : ℕ) (m : Marks) : Type 0 where
+  pub to : (e : Event) (j : ℕ) → j < n → get_or h.codes.now j 0 ≡ event_code e → place_of m e ≡ Some j
+  pub of : (e : Event) (j : ℕ) → place_of m e ≡ Some j → (j < n) × (get_or h.codes.now j 0 ≡ event_code e)
+  pub stand : (j : ℕ) → j < n → StandsAt (table_in t) h.codes.now h.samples.now j
+
+abbrev pub Reads : Operations → History → Result Marks Refusal → Type 0
+Reads t h (Ok m) = ReadTo t h (length h.codes.now) m
+Reads t h (Err r) = event_refusal t.thread.now t.kind.now t.sample.now h.codes.now h.samples.now ≡ Err r
 
 -- ---- the five conditions
 
@@ -89,74 +94,34 @@ abbrev pub Free20 : ℕ → List ℕ → Type 0
 Free20 size l = (j : ℕ) → j < length l → (get_or l j 0 < size) × (¬ Among l j (get_or l j 0))
 
 -- 21: each entry was called
-abbrev pub Free21 : List ℕ → List ℕ → Type 0
-Free21 marks l = (j : ℕ) → j < length l → get_or marks (2 * get_or l j 0) 0 ≢ 0
+abbrev pub Free21 : Marks → List ℕ → Type 0
+Free21 m l = (j : ℕ) → j < length l → called m (get_or l j 0) ≢ None
 
 -- 22: each operation that has returned is listed
-abbrev pub Free22 : ℕ → List ℕ → List ℕ → Type 0
-Free22 size marks l = (o : ℕ) → o < size → get_or marks (2 * o + 1) 0 ≢ 0 → Among l (length l) o
+abbrev pub Free22 : Marks → List ℕ → Type 0
+Free22 m l = (o : ℕ) → o < 128 → returned m o ≢ None → Among l (length l) o
 
 -- a has returned before b was called
-abbrev pub Earlier : List ℕ → ℕ → ℕ → Type 0
-Earlier marks a b = (get_or marks (2 * a + 1) 0 ≢ 0) × (get_or marks (2 * a + 1) 0 < get_or marks (2 * b) 0)
+unfoldable pub Earlier : Marks → ℕ → ℕ → Type 0
+Earlier m a b = (i : ℕ) × (j : ℕ) × (returned m a ≡ Some i) × (called m b ≡ Some j) × (i < j)
 
 -- 23: no entry precedes one that stands before it
-abbrev pub Free23 : List ℕ → List ℕ → Type 0
-Free23 marks l = (j : ℕ) → j < length l → (k : ℕ) → k < j → ¬ Earlier marks (get_or l j 0) (get_or l k 0)
+abbrev pub Free23 : Marks → List ℕ → Type 0
+Free23 m l = (j : ℕ) → j < length l → (k : ℕ) → k < j → ¬ Earlier m (get_or l j 0) (get_or l k 0)
 
--- o, if it has returned, returned v
-abbrev pub Gets : List ℤ → List ℕ → ℕ → ℤ → Type 0
-Gets xs marks o v = (k : ℕ) → get_or marks (2 * o + 1) 0 ≡ suc k → get_or xs k (pos 0) ≡ v
+-- o, if it has returned, returned x
+abbrev pub Gets : History → Marks → ℕ → ℤ → Type 0
+Gets h m o x = (i : ℕ) → returned m o ≡ Some i → i < length h.samples.now → get_or h.samples.now i (pos 0) ≡ x
 
 -- 24: a queue that holds q plays the order
-abbrev pub PlaysOn : List ℕ → List ℤ → List ℤ → List ℕ → List ℤ → List ℕ → Type 0
-PlaysOn kind sample xs marks q l = Plays (λ o. kind_of (get_or kind o 0)) (λ o. get_or sample o (pos 0)) (Gets xs marks) (λ r. Unit {0}) q l
+abbrev pub PlaysOn : Operations → History → Marks → List ℤ → List ℕ → Type 0
+PlaysOn t h m q l = Plays (table_in t).kind (table_in t).sample (Gets h m) (λ r. Unit {0}) q l
 
 -- the first fault
-abbrev pub Finds : List ℕ → List ℤ → List ℤ → List ℕ → List ℕ → Verdict → Type 0
-Finds kind sample xs marks l NoOperation = ¬ Free20 (length kind) l
-Finds kind sample xs marks l Uncalled = Free20 (length kind) l × (¬ Free21 marks l)
-Finds kind sample xs marks l Missing = Free20 (length kind) l × Free21 marks l × (¬ Free22 (length kind) marks l)
-Finds kind sample xs marks l Turned = Free20 (length kind) l × Free21 marks l × Free22 (length kind) marks l × (¬ Free23 marks l)
-Finds kind sample xs marks l Unplayable = Free20 (length kind) l × Free21 marks l × Free22 (length kind) marks l × Free23 marks l × (¬ PlaysOn kind sample xs marks [] l)
-Finds kind sample xs marks l Linear = Free20 (length kind) l × Free21 marks l × Free22 (length kind) marks l × Free23 marks l × PlaysOn kind sample xs marks [] l
-
--- what the play asks of its lists
-pub record Playing (kind : List ℕ) (sample xs : List ℤ) (marks l : List ℕ) : Type 0 where
-  pub small : length kind ≤ 128
-  pub together : length sample ≡ length kind
-  pub inside : Inside marks xs
-  pub numbers : Below (length kind) l
-  pub few : length l ≤ 128
-
-unfoldable pub event_refusal : List ℕ → List ℕ → List ℤ → List ℕ → List ℤ → Fit
-event_refusal thread kind sample codes samples =
-    unless_at (lowest (λ i. fails (stands? (table_of thread kind sample) codes samples i)) (length codes)) Event Pass
-
-abbrev pub or_else : Fit → Verdict → Judged
-or_else fit v = by_fit fit (Says v) Refused
-
--- what is answered once the table and the lengths have passed
-abbrev pub history_judged : List ℕ → List ℕ → List ℤ → List ℕ → List ℤ → List ℕ → Judged
-history_judged thread kind sample codes samples order =
-    or_else (event_refusal thread kind sample codes samples) (verdict (table_of thread kind sample) (events (table_of thread kind sample) codes samples) order)
-
--- ---- the queue
-
--- n samples from a place on
-unfoldable pub window : List ℤ → ℕ → ℕ → List ℤ
-window slots front zero = []
-window slots front (suc n) = get_or slots front (pos 0) ∷ window slots (suc front) n
-
-abbrev pub queue_of : Queue → List ℤ
-queue_of q = window q.slots q.front q.held
-
--- x is at the back
-pub record Pushed (q : Queue) (x : ℤ) (r : Queue) : Type 0 where
-  pub samples : queue_of r ≡ queue_of q ++ (x ∷ [])
-  pub end : r.front + r.held ≡ q.front + q.held + 1
-
--- the front is gone
-pub record Pulled (q r : Queue) : Type 0 where
-  pub samples : queue_of q ≡ get_or q.slots q.front (pos 0) ∷ queue_of r
-  pub end : r.front + r.held ≡ q.front + q.held
+abbrev pub Finds : Operations → History → Marks → List ℕ → Verdict → Type 0
+Finds t h m l NoOperation = ¬ Free20 (length t.thread.now) l
+Finds t h m l Uncalled = Free20 (length t.thread.now) l × (¬ Free21 m l)
+Finds t h m l Missing = Free20 (length t.thread.now) l × Free21 m l × (¬ Free22 m l)
+Finds t h m l Turned = Free20 (length t.thread.now) l × Free21 m l × Free22 m l × (¬ Free23 m l)
+Finds t h m l Unplayable = Free20 (length t.thread.now) l × Free21 m l × Free22 m l × Free23 m l × (¬ PlaysOn t h m [] l)
+Finds t h m l Linear = Free20 (length t.thread.now) l × Free21 m l × Free22 m l × Free23 m l × PlaysOn t h m [] l

@@ -1,114 +1,69 @@
 // A history read from its codes and samples, up to the first event that cannot stand (refusal 10).
-ghost use Rattle.std.specs.Prelude.{◌≡◌, ◌≤◌, ◌<◌, List, ℤ, length};
-ghost use Rattle.judge.specs.Marks.{Tells, EarlierBack, CallStands, ReturnStands, CodeStands, Read};
+ghost use Rattle.std.specs.Prelude.{◌≡◌, ◌≤◌, ◌<◌, ◌↔◌, IsTrue, length};
+ghost use Rattle.judge.specs.Marks.{Fitting, EarlierBack, CallStands, ReturnStands, EventStands, Reads};
 
-use super::Reading;
-
-// Whether two samples are the same.
-pub(crate) fn are_same(a: i32, b: i32) -> bool
-    ensures { Tells (a ≡ b) result }
-{
-    if a == b {
-        return true;
-    }
-    false
-}
+use crate::History;
+use crate::marks::Marks;
+use history::{Event, event_of};
+use limits::{Kind, Refusal, Table};
 
 // Whether every earlier operation of o's thread has returned.
-fn are_back(thread: &[u8], marks: &[usize; 256], o: usize) -> bool
-    requires { (o < length thread.now) × (length thread.now ≤ 128) }
-    ensures { Tells (EarlierBack thread.now marks.now o) result }
+fn are_back(table: &Table, marks: &Marks, o: usize) -> bool
+    requires { o < length table.now.thread.now }
+    ensures { IsTrue result ↔ EarlierBack table.now marks.now o }
 {
-    let mut p: usize = 0;
-    while p < o {
-        if thread[p] == thread[o] {
-            if marks[2 * p + 1] == 0 {
-                return false;
-            }
+    for p in 0..o {
+        if table.thread[p] == table.thread[o] && marks.find_return(p).is_none() {
+            return false;
         }
-        p += 1;
     }
     true
 }
 
 // Whether a call of o can stand next, with the sample x beside it.
-fn can_call(thread: &[u8], marks: &[usize; 256], o: usize, x: i32) -> bool
-    requires { (o < length thread.now) × (length thread.now ≤ 128) }
-    ensures { Tells (CallStands thread.now marks.now o x) result }
+fn can_call(table: &Table, marks: &Marks, o: usize, x: i32) -> bool
+    requires { o < length table.now.thread.now }
+    ensures { IsTrue result ↔ CallStands table.now marks.now o x }
 {
-    if marks[2 * o] != 0 {
-        return false;
-    }
-    if !are_same(x, 0) {
-        return false;
-    }
-    if !are_back(thread, marks, o) {
-        return false;
-    }
-    true
+    marks.find_call(o).is_none() && x == 0 && are_back(table, marks, o)
 }
 
 // Whether a return of o can stand next, with the sample x beside it.
-fn can_return(kind: &[u8], marks: &[usize; 256], o: usize, x: i32) -> bool
-    requires { (o < length kind.now) × (length kind.now ≤ 128) }
-    ensures { Tells (ReturnStands kind.now marks.now o x) result }
+fn can_return(table: &Table, marks: &Marks, o: usize, x: i32) -> bool
+    requires { o < length table.now.kind.now }
+    ensures { IsTrue result ↔ ReturnStands table.now marks.now o x }
 {
-    if marks[2 * o] == 0 {
-        return false;
-    }
-    if marks[2 * o + 1] != 0 {
-        return false;
-    }
-    if kind[o] == 1 {
-        if !are_same(x, 0) {
-            return false;
+    marks.find_call(o).is_some()
+        && marks.find_return(o).is_none()
+        && match Kind::of(table.kind[o]) {
+            Kind::Put => x == 0,
+            Kind::Take => true,
         }
-        return true;
-    }
-    true
 }
 
-// Whether the event with this code can stand next, with the sample x beside it.
-fn can_stand(thread: &[u8], kind: &[u8], marks: &[usize; 256], code: usize, x: i32) -> bool
-    requires { (length kind.now ≡ length thread.now) × (length thread.now ≤ 128) }
-    ensures { Tells (CodeStands thread.now kind.now marks.now code x) result }
+// Whether this event can stand next, with the sample x beside it.
+fn can_stand(table: &Table, marks: &Marks, event: Event, x: i32) -> bool
+    requires { Fitting table.now }
+    ensures { IsTrue result ↔ EventStands table.now marks.now event x }
 {
-    let o = code / 2;
-    if thread.len() <= o {
-        return false;
+    match event {
+        Event::Call(o) => o < table.thread.len() && can_call(table, marks, o, x),
+        Event::Return(o) => o < table.thread.len() && can_return(table, marks, o, x),
     }
-    if code % 2 == 0 {
-        if !can_call(thread, marks, o, x) {
-            return false;
-        }
-        return true;
-    }
-    if !can_return(kind, marks, o, x) {
-        return false;
-    }
-    true
 }
 
-// A history read up to its first event that cannot stand. What the puts' samples are plays no part.
-pub(crate) fn read_history(thread: &[u8], kind: &[u8], codes: &[u16], samples: &[i32]) -> Reading
-    requires { (length thread.now ≤ 128) × ((length kind.now ≡ length thread.now) × (length samples.now ≡ length codes.now)) }
-    ensures { (sample : List ℤ) → Read thread.now kind.now sample codes.now samples.now result }
+// Where the events of a history stand, or refusal 10 of the first that cannot stand.
+pub(crate) fn read_history(table: &Table, history: &History) -> Result<Marks, Refusal>
+    requires { Fitting table.now × (length history.now.samples.now ≡ length history.now.codes.now) }
+    ensures { Reads table.now history.now result }
 {
-    let mut marks = [0usize; 256];
-    let mut i: usize = 0;
-    while i < codes.len() {
-        let code = codes[i] as usize;
-        if !can_stand(thread, kind, &marks, code, samples[i]) {
-            return Reading {
-                end: i,
-                marks: marks,
-            };
+    let mut marks = Marks::new();
+    for (i, code) in history.codes.iter().enumerate() {
+        let event = event_of(*code);
+        if !can_stand(table, &marks, event, history.samples[i]) {
+            return Err(Refusal::Event(i));
         }
-        marks[code] = i + 1;
-        i += 1;
+        marks.note(event, i);
     }
-    Reading {
-        end: i,
-        marks: marks,
-    }
+    Ok(marks)
 }

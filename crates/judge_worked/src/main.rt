@@ -2,7 +2,11 @@
 // v, the verdict's number and 00; or r, the refusal's number and its detail.
 #![tactic(auto)]
 
-use judge::Judged;
+ghost use Rattle.std.specs.Prelude.{◌≤◌};
+
+use judge::History;
+use limits::{Refusal, Table};
+use linear::Verdict;
 use std::io;
 
 // A line: a letter and two numbers, of two digits each.
@@ -10,39 +14,30 @@ fn write_line(rt: &impl Print, letter: char, number: u8, detail: usize) -> io::R
     println!(rt; "{letter} {number:02} {detail:02}")
 }
 
-fn show(rt: &impl Print, answer: Judged) -> io::Result<()> {
+fn show(rt: &impl Print, answer: Result<Verdict, Refusal>) -> io::Result<()> {
     match answer {
-        Judged::Says(v) => write_line(rt, 'v', linear::number(v), 0),
-        Judged::Refused(r) => write_line(rt, 'r', limits::number(r), limits::detail(r) % 100),
+        Ok(v) => write_line(rt, 'v', v.number(), 0),
+        Err(r) => write_line(rt, 'r', r.number(), r.detail() % 100),
     }
 }
 
 // Run A's table, with another history.
-fn ask(
-    rt: &impl Print,
-    threads: usize,
-    codes: &[u16],
-    samples: &[i32],
-    order: &[u8],
-) -> io::Result<()> {
-    let sample = [100i32, 0, 0];
-    let answer = judge::judge(
-        threads,
-        b"\x00\x01\x02",
-        b"\x01\x01\x02",
-        &sample,
-        codes,
-        samples,
-        order,
-    );
-    show(rt, answer)
+fn ask(rt: &impl Print, threads: usize, history: &History, order: &[u8]) -> io::Result<()> {
+    let table = Table {
+        thread: b"\x00\x01\x02",
+        kind: b"\x01\x01\x02",
+        sample: &[100, 0, 0],
+    };
+    show(rt, judge::judge(threads, &table, history, order))
 }
 
 // Run A's history, in an order.
 fn ask_order(rt: &impl Print, order: &[u8]) -> io::Result<()> {
-    let codes = [0u16, 2, 3, 4, 5, 1];
-    let samples = [0i32; 6];
-    ask(rt, 3, &codes, &samples, order)
+    let history = History {
+        codes: &[0, 2, 3, 4, 5, 1],
+        samples: &[0; 6],
+    };
+    ask(rt, 3, &history, order)
 }
 
 // Run I: the judge on run A's history.
@@ -56,9 +51,11 @@ fn run_i(rt: &impl Print) -> io::Result<()> {
 
 // A put that has returned and a take that has not, in an order.
 fn ask_waiting(rt: &impl Print, order: &[u8]) -> io::Result<()> {
-    let codes = [0u16, 1, 4];
-    let samples = [0i32; 3];
-    ask(rt, 3, &codes, &samples, order)
+    let history = History {
+        codes: &[0, 1, 4],
+        samples: &[0; 3],
+    };
+    ask(rt, 3, &history, order)
 }
 
 // Orders that are too long or of no operation, and operations that have not returned.
@@ -75,83 +72,109 @@ fn other_orders(rt: &impl Print) -> io::Result<()> {
 
 // A put and then a take, which gives a sample.
 fn ask_taken(rt: &impl Print, got: i32) -> io::Result<()> {
-    let codes = [0u16, 1, 4, 5];
-    let samples = [0i32, 0, 0, got];
-    ask(rt, 3, &codes, &samples, b"\x00\x02")
+    let history = History {
+        codes: &[0, 1, 4, 5],
+        samples: &[0, 0, 0, got],
+    };
+    ask(rt, 3, &history, b"\x00\x02")
 }
 
 // Three events, a sample with the second, and an empty order.
-fn ask_events(rt: &impl Print, first: u16, second: u16, third: u16, sample: i32) -> io::Result<()> {
-    let codes = [first, second, third];
-    let samples = [0i32, sample, 0];
-    ask(rt, 3, &codes, &samples, b"")
+fn ask_events(rt: &impl Print, codes: &[u16; 3], sample: i32) -> io::Result<()> {
+    let history = History {
+        codes,
+        samples: &[0, sample, 0],
+    };
+    ask(rt, 3, &history, b"")
 }
 
 // Histories that are refused.
 fn histories(rt: &impl Print) -> io::Result<()> {
-    ask_events(rt, 0, 6, 2, 0)?;
-    ask_events(rt, 65535, 0, 2, 0)?;
-    ask_events(rt, 0, 2, 0, 0)?;
-    ask_events(rt, 0, 3, 2, 0)?;
-    ask_events(rt, 0, 1, 1, 0)?;
-    ask_events(rt, 0, 2, 4, 7)?;
-    ask_events(rt, 0, 1, 4, 7)
+    ask_events(rt, &[0, 6, 2], 0)?;
+    ask_events(rt, &[65535, 0, 2], 0)?;
+    ask_events(rt, &[0, 2, 0], 0)?;
+    ask_events(rt, &[0, 3, 2], 0)?;
+    ask_events(rt, &[0, 1, 1], 0)?;
+    ask_events(rt, &[0, 2, 4], 7)?;
+    ask_events(rt, &[0, 1, 4], 7)
 }
 
 // Three calls, for a number of threads and with samples.
 fn ask_calls(rt: &impl Print, threads: usize, samples: &[i32]) -> io::Result<()> {
-    let codes = [0u16, 2, 4];
-    ask(rt, threads, &codes, samples, b"")
+    let history = History {
+        codes: &[0, 2, 4],
+        samples,
+    };
+    ask(rt, threads, &history, b"")
 }
 
 // Samples that are too few, and numbers of threads.
 fn other_bounds(rt: &impl Print) -> io::Result<()> {
-    let samples = [0i32; 3];
-    let pair = [0i32; 2];
-    ask_calls(rt, 3, &pair)?;
-    ask_calls(rt, 0, &pair)?;
-    ask_calls(rt, 17, &samples)?;
-    ask_calls(rt, 16, &samples)?;
-    ask_calls(rt, 2, &samples)
+    ask_calls(rt, 3, &[0; 2])?;
+    ask_calls(rt, 0, &[0; 2])?;
+    ask_calls(rt, 17, &[0; 3])?;
+    ask_calls(rt, 16, &[0; 3])?;
+    ask_calls(rt, 2, &[0; 3])
 }
 
-// A table for one thread, with no history.
-fn ask_table(rt: &impl Print, thread: &[u8], kind: &[u8], sample: &[i32]) -> io::Result<()> {
-    let codes = [0u16; 0];
-    let samples = [0i32; 0];
-    let answer = judge::judge(1, thread, kind, sample, &codes, &samples, b"");
-    show(rt, answer)
+// A table for one thread, with codes and samples that are no events, and an empty order.
+fn ask_table(rt: &impl Print, table: &Table, samples: &[i32]) -> io::Result<()> {
+    let history = History {
+        codes: &[],
+        samples,
+    };
+    show(rt, judge::judge(1, table, &history, b""))
+}
+
+// A table whose samples are 5 and 0, with no history.
+fn ask_pair(rt: &impl Print, thread: &[u8], kind: &[u8]) -> io::Result<()> {
+    let table = Table {
+        thread,
+        kind,
+        sample: &[5, 0],
+    };
+    ask_table(rt, &table, &[])
 }
 
 // Tables that are refused.
 fn tables(rt: &impl Print) -> io::Result<()> {
-    let sample = [5i32, 0];
-    ask_table(rt, b"\x00\x00", b"\x01\x02\x02", &sample)?;
-    ask_table(rt, b"\x00\x01", b"\x01\x02", &sample)?;
-    ask_table(rt, b"\x00\x00", b"\x01\x03", &sample)?;
-    ask_table(rt, b"\x00\x00", b"\x02\x01", &sample)
+    ask_pair(rt, b"\x00\x00", b"\x01\x02\x02")?;
+    ask_pair(rt, b"\x00\x01", b"\x01\x02")?;
+    ask_pair(rt, b"\x00\x00", b"\x01\x03")?;
+    ask_pair(rt, b"\x00\x00", b"\x02\x01")
 }
 
 // A put and a take of one thread, and two events: the put has not returned.
 fn ask_one(rt: &impl Print, first: u16, second: u16, got: i32) -> io::Result<()> {
-    let sample = [5i32, 0];
-    let codes = [first, second];
-    let samples = [0i32, got];
-    let answer = judge::judge(1, b"\x00\x00", b"\x01\x02", &sample, &codes, &samples, b"");
-    show(rt, answer)
+    let table = Table {
+        thread: b"\x00\x00",
+        kind: b"\x01\x02",
+        sample: &[5, 0],
+    };
+    let history = History {
+        codes: &[first, second],
+        samples: &[0, got],
+    };
+    show(rt, judge::judge(1, &table, &history, b""))
+}
+
+// Puts without a history, as many as this.
+fn ask_puts(rt: &impl Print, puts: usize, samples: &[i32]) -> io::Result<()>
+    requires { puts ≤ 129 }
+{
+    let table = Table {
+        thread: &[0; 129][..puts],
+        kind: &[1; 129][..puts],
+        sample: &[0; 129][..puts],
+    };
+    ask_table(rt, &table, samples)
 }
 
 // Tables at the bound and past it.
 fn long_tables(rt: &impl Print) -> io::Result<()> {
-    let thread = [0u8; 129];
-    let kind = [1u8; 129];
-    let sample = [0i32; 129];
-    ask_table(rt, &thread, &kind, &sample)?;
-    let codes = [0u16; 0];
-    let samples = [0i32; 2];
-    let answer = judge::judge(1, &thread, &kind, &sample, &codes, &samples, b"");
-    show(rt, answer)?;
-    ask_table(rt, &thread[..128], &kind[..128], &sample[..128])
+    ask_puts(rt, 129, &[])?;
+    ask_puts(rt, 129, &[0; 2])?;
+    ask_puts(rt, 128, &[])
 }
 
 fn main(rt: HostRuntime) -> io::Result<()> {

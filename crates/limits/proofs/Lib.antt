@@ -1,3 +1,5 @@
 pub mod FitLaws
 pub mod LimitsLaws
 pub mod PassLaws
+pub mod ChainLaws
+pub mod SearchLaws

@@ -1,4 +1,5 @@
 -- What an input that passes refusals 1 to 8 has. Assumes nothing.
+use Rattle.std.specs.Prelude.{Ok}
 use mathlib.Core.Path.{◌≡◌, refl}
 use mathlib.Core.Bool.{Bool, true, false, not, ◌&&◌, ◌||◌}
 use Prim.Native.Nat.{ℕ, zero, suc, ◌≤◌, ◌<◌}
@@ -8,7 +9,6 @@ use lib.IntN.{ℤ, pos, negsuc}
 use lib.ListN.{length, get_or}
 use borrow.Author.Tests.{leb-true, leb-false, le-leb, eq-eqb}
 use Rattle.limits.specs.declared.Refusal.TheVariants.{Threads, Slots, Lengths, Operations, Operation, Puts, Schedule, Entry}
-use Rattle.limits.specs.declared.Fit.TheVariants.{Pass}
 use Rattle.limits.specs.Lists.{lowest}
 use Rattle.limits.specs.Operations.{Input, puts_in}
 use Rattle.limits.specs.Refusals.{within, together, unfit, unfit_at, input_refusal, is_zero}
@@ -28,7 +28,7 @@ pub record Passed (i : Input) : Type 0 where
   pub short : length i.schedule ≤ 4096
   pub named : (k : ℕ) → k < length i.schedule → get_or i.schedule k 0 < i.threads
 
-pub input_passed : (i : Input) → input_refusal i ≡ Pass → Passed i
+pub input_passed : (i : Input) → input_refusal i ≡ Ok tt → Passed i
 unfolding input_refusal
 input_passed i e =
     let n = i.threads in
@@ -44,7 +44,7 @@ input_passed i e =
     let f = unless_at_pass (lowest (unfit_at n thread kind sample) (length thread)) Operation _ d.1 in
     let g = unless_pass (leb (puts_in kind) m) Puts _ f.1 in
     let h = unless_pass (leb (length schedule) 4096) Schedule _ g.1 in
-    let k = unless_at_pass (lowest (stray_at n schedule) (length schedule)) Entry Pass h.1 in
+    let k = unless_at_pass (lowest (stray_at n schedule) (length schedule)) Entry (Ok tt) h.1 in
     let w = both_true (leb 1 n) (leb n 16) a.0 in
     let v = both_true (leb 1 m) (leb m 64) b.0 in
     let t = together_lengths thread kind sample c.0 in
@@ -83,7 +83,7 @@ module _ (n t k : ℕ) (x : ℤ) (e : unfit n t k x ≡ false) where
       go (negsuc y) false q = absurd (let z : ◌≡◌ {A = ℕ} 0 1 = cc in omega arith)
 
 -- what passes 1 to 8 passes 1, 3, 4 and 5
-pub table_passed : (i : Input) → Passed i → table_refusal i.threads i.thread i.kind i.sample ≡ Pass
+pub table_passed : (i : Input) → Passed i → table_refusal i.threads i.thread i.kind i.sample ≡ Ok tt
 unfolding table_refusal
 table_passed i p =
     rw (

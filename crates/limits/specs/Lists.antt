@@ -4,9 +4,7 @@
 --   Pw R l       each entry of l has R to each that stands after it
 --   over vs l    the list l with its first entries overwritten by vs: those after them are as they were
 --   lowest p n   the lowest number below n that p holds of, or nowhere
-use Rattle.std.specs.Prelude.{◌≡◌, Bool, cond, ◌⊎◌, List, [], ◌∷◌, ◌++◌, ℕ, zero, suc, length, drop}
-use Rattle.limits.specs.declared.Place.{Place}
-use Rattle.limits.specs.declared.Place.TheVariants.{At, Nowhere}
+use Rattle.std.specs.Prelude.{◌≡◌, Bool, cond, ◌⊎◌, List, [], ◌∷◌, ◌++◌, ℕ, zero, suc, length, drop, None, Option, Some}
 
 module _ {A : Type 0} where
   abbrev pub All : (A → Type 0) → List A → Type 0
@@ -25,9 +23,9 @@ module _ {A : Type 0} where
   over vs l = vs ++ drop (length vs) l
 
 -- the lowest of the n numbers from k on that p holds of
-unfoldable pub lowest_from : (ℕ → Bool) → ℕ → ℕ → Place
-lowest_from p k zero = Nowhere
-lowest_from p k (suc n) = cond (p k) (At k) (lowest_from p (suc k) n)
+unfoldable pub lowest_from : (ℕ → Bool) → ℕ → ℕ → Option ℕ
+lowest_from p k zero = None
+lowest_from p k (suc n) = cond (p k) (Some k) (lowest_from p (suc k) n)
 
-abbrev pub lowest : (ℕ → Bool) → ℕ → Place
+abbrev pub lowest : (ℕ → Bool) → ℕ → Option ℕ
 lowest p n = lowest_from p 0 n

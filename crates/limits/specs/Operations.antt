@@ -6,9 +6,8 @@
 --   Input     a run's input: threads, slots, the operations' threads, kinds and samples, the schedule
 --   table     the table that an input gives
 use Rattle.std.specs.Prelude.{cond, List, [], ◌∷◌, ℕ, suc, eqb, ℤ, pos, length, get_or}
-
-pub data Kind : Type 0 where
-  putting taking : Kind
+use Rattle.limits.specs.declared.Kind.{Kind}
+use Rattle.limits.specs.declared.Kind.TheVariants.{Put as putting, Take as taking}
 
 pub record Table : Type 0 where
   pub size : ℕ

@@ -1,17 +1,14 @@
 -- Numbered refusals (document 01): their numbers and details, and which of 1 to 8 an input gets. Assumes nothing.
+--   Fit                 whether an input may go on, or why it is refused
 --   refusal_told        the document's number and detail of each refusal, a row of its table each
 --   unless, unless_at   tests in turn: the first that fails gives its refusal
 --   by_fit              one thing where nothing is refused, another where something is
 --   and_then            tests after tests that may already refuse
 --   lent_after          a lent list afterwards: where nothing is refused its first entries are vs; all else in it is as it was
 --   input_refusal       1 to 8, of a run's input
-use Rattle.std.specs.Prelude.{Bool, true, false, not, ◌&&◌, ◌||◌, List, ℕ, zero, suc, leb, eqb, ℤ, pos, negsuc, length, get_or}
-use Rattle.limits.specs.declared.Place.{Place}
-use Rattle.limits.specs.declared.Place.TheVariants.{At, Nowhere}
+use Rattle.std.specs.Prelude.{Bool, true, false, not, ◌&&◌, ◌||◌, List, ℕ, zero, suc, leb, eqb, ℤ, pos, negsuc, length, get_or, Result, Err, None, Ok, Option, Some, ⊤}
 use Rattle.limits.specs.declared.Refusal.{Refusal}
 use Rattle.limits.specs.declared.Refusal.TheVariants.{Threads, Slots, Lengths, Operations, Operation, Puts, Schedule, Entry, Room, Event, Line, Text}
-use Rattle.limits.specs.declared.Fit.{Fit}
-use Rattle.limits.specs.declared.Fit.TheVariants.{Pass, Refused}
 use Rattle.limits.specs.Lists.{over, lowest}
 use Rattle.limits.specs.Operations.{puts_in, Input}
 
@@ -30,25 +27,28 @@ refusal_told (Event i) = (10, i)
 refusal_told (Line k) = (11, k)
 refusal_told Text = (12, 0)
 
+abbrev pub Fit : Type 0
+Fit = Result ⊤ Refusal
+
 -- the refusal unless the test holds, and what comes after it if it does
 abbrev pub unless : Bool → Refusal → Fit → Fit
 unless true r rest = rest
-unless false r rest = Refused r
+unless false r rest = Err r
 
 -- the refusal at the place found, and what comes after if there is none
-abbrev pub unless_at : Place → (ℕ → Refusal) → Fit → Fit
-unless_at Nowhere r rest = rest
-unless_at (At i) r rest = Refused (r i)
+abbrev pub unless_at : Option ℕ → (ℕ → Refusal) → Fit → Fit
+unless_at None r rest = rest
+unless_at (Some i) r rest = Err (r i)
 
 abbrev pub by_fit : {A : Type 0} → Fit → A → (Refusal → A) → A
-by_fit Pass a refused = a
-by_fit (Refused r) a refused = refused r
+by_fit (Ok tt) a refused = a
+by_fit (Err r) a refused = refused r
 
 abbrev pub lent_after : {A : Type 0} → Fit → List A → List A → List A
 lent_after fit vs l = by_fit fit (over vs l) (λ r. l)
 
 abbrev pub and_then : Fit → Fit → Fit
-and_then fit rest = by_fit fit rest Refused
+and_then fit rest = by_fit fit rest Err
 
 abbrev pub within : ℕ → ℕ → ℕ → Bool
 within least most x = leb least x && leb x most
@@ -79,4 +79,4 @@ input_refusal i =
     (unless (leb (puts_in i.kind) i.slots) Puts
     (unless (leb (length i.schedule) 4096) Schedule
     (unless_at (lowest (λ k. leb i.threads (get_or i.schedule k 0)) (length i.schedule)) Entry
-    Pass)))))))
+    (Ok tt))))))))

@@ -1,11 +1,12 @@
-// Operation lists, the numbers that bound a run, and the refusals that need nothing but a run's input.
+// Operation tables, the numbers that bound a run, and the refusals that need nothing but a run's input.
 #![tactic(auto)]
 
-ghost use Rattle.std.specs.Prelude.{◌≡◌, true, false, ℕ, ◌+◌, ◌≤◌, ◌<◌, leb, ℤ, pos, length, get_or};
+ghost use Rattle.std.specs.Prelude.{◌≡◌, ◌≤◌, ℕ, ℤ, pos, length, get_or, count_by, position, ◌==◌};
 ghost use Rattle.limits.specs.Lists.{lowest};
-ghost use Rattle.limits.specs.Operations.{input_of, puts_in};
-ghost use Rattle.limits.specs.Refusals.{refusal_told, within, is_zero, together, unfit, unfit_at, input_refusal};
-ghost use Rattle.limits.specs.Parts.{stray_at, table_refusal, schedule_refusal};
+ghost use Rattle.limits.specs.Operations.{puts_in, kind_of};
+ghost use Rattle.limits.specs.Inputs.{input_in};
+ghost use Rattle.limits.specs.Refusals.{refusal_told, within, together, unfit, unfit_at, input_refusal};
+ghost use Rattle.limits.specs.Parts.{IsEven, kind_number, stray_at, number_refusal, operations_refusal, table_refusal, schedule_refusal};
 
 // Why an input is refused; a place where the document asks for one.
 #[derive(Clone, Copy)]
@@ -24,209 +25,202 @@ pub enum Refusal {
     Text,
 }
 
-// Whether an input may go on.
-#[derive(Clone, Copy)]
-pub enum Fit {
-    Pass,
-    Refused(Refusal),
-}
+impl Refusal {
+    // The document's number of a refusal.
+    pub fn number(self) -> u8
+        ensures { result ≡ (refusal_told self).0 }
+    {
+        match self {
+            Refusal::Threads => 1,
+            Refusal::Slots => 2,
+            Refusal::Lengths => 3,
+            Refusal::Operations => 4,
+            Refusal::Operation(_) => 5,
+            Refusal::Puts => 6,
+            Refusal::Schedule => 7,
+            Refusal::Entry(_) => 8,
+            Refusal::Room => 9,
+            Refusal::Event(_) => 10,
+            Refusal::Line(_) => 11,
+            Refusal::Text => 12,
+        }
+    }
 
-// Where a search ended.
-#[derive(Clone, Copy)]
-pub enum Place {
-    At(usize),
-    Nowhere,
-}
-
-// The document's number of a refusal.
-pub fn number(r: Refusal) -> u8
-    ensures { result ≡ (refusal_told r).0 }
-{
-    match r {
-        Refusal::Threads => 1,
-        Refusal::Slots => 2,
-        Refusal::Lengths => 3,
-        Refusal::Operations => 4,
-        Refusal::Operation(_) => 5,
-        Refusal::Puts => 6,
-        Refusal::Schedule => 7,
-        Refusal::Entry(_) => 8,
-        Refusal::Room => 9,
-        Refusal::Event(_) => 10,
-        Refusal::Line(_) => 11,
-        Refusal::Text => 12,
+    // The document's detail of a refusal: its place, 0 where it has none.
+    pub fn detail(self) -> usize
+        ensures { result ≡ (refusal_told self).1 }
+    {
+        match self {
+            Refusal::Operation(place) | Refusal::Entry(place) => place,
+            Refusal::Event(place) | Refusal::Line(place) => place,
+            _ => 0,
+        }
     }
 }
 
-// The document's detail of a refusal.
-pub fn detail(r: Refusal) -> usize
-    ensures { result ≡ (refusal_told r).1 }
-{
-    match r {
-        Refusal::Threads => 0,
-        Refusal::Slots => 0,
-        Refusal::Lengths => 0,
-        Refusal::Operations => 0,
-        Refusal::Operation(o) => o,
-        Refusal::Puts => 0,
-        Refusal::Schedule => 0,
-        Refusal::Entry(i) => i,
-        Refusal::Room => 0,
-        Refusal::Event(i) => i,
-        Refusal::Line(k) => k,
-        Refusal::Text => 0,
+// What an operation does.
+#[derive(Clone, Copy)]
+pub enum Kind {
+    Put,
+    Take,
+}
+
+impl Kind {
+    // The kind that a number in a list of kinds stands for: 1 is a put. A table that is not refused has no other number but 2, a take.
+    pub fn of(number: u8) -> Kind
+        ensures { result ≡ kind_of number }
+    {
+        if number == 1 { Kind::Put } else { Kind::Take }
+    }
+
+    // The number that stands for it in a list of kinds.
+    pub fn number(self) -> u8
+        ensures { result ≡ kind_number self }
+    {
+        match self {
+            Kind::Put => 1,
+            Kind::Take => 2,
+        }
     }
 }
 
-fn is_within(least: usize, most: usize, x: usize) -> bool
-    ensures { result ≡ within least most x }
-{
-    if least <= x { x <= most } else { false }
+// A table of operations: of each, numbered from 0, its thread, its kind (1 for a put, 2 for a take) and its sample.
+// The kinds are numbers, as in the lists that C hands over; `Kind` says what they stand for.
+#[derive(Clone, Copy)]
+pub struct Table<'a> {
+    pub thread: &'a [u8],
+    pub kind: &'a [u8],
+    pub sample: &'a [i32],
 }
 
-fn is_zero(x: i32) -> bool
-    ensures { result ≡ is_zero x }
-{
-    x == 0
+// A run's input.
+#[derive(Clone, Copy)]
+pub struct Input<'a> {
+    pub threads: usize,
+    pub slots: usize,
+    pub table: Table<'a>,
+    pub schedule: &'a [u8],
 }
 
-fn are_together(thread: &[u8], kind: &[u8], sample: &[i32]) -> bool
-    ensures { result ≡ together thread.now kind.now sample.now }
+// A number from 1 to the most that is allowed, or else this refusal.
+fn check_number(n: usize, most: usize, refusal: Refusal) -> Result<(), Refusal>
+    ensures { result ≡ number_refusal n most refusal }
 {
-    let n = thread.len();
-    if kind.len() == n {
-        sample.len() == n
+    if (1..=most).contains(&n) {
+        Ok(())
     } else {
-        false
+        Err(refusal)
     }
 }
 
-// Whether an operation is one that refusal 5 names.
-fn is_unfit(threads: usize, t: u8, k: u8, x: i32) -> bool
-    ensures { result ≡ unfit threads t k x }
+// Whether an operation is one that refusal 5 names: its thread is too high, its kind is neither put nor take, or it is a take with a sample.
+fn is_unfit(threads: usize, thread: u8, kind: u8, sample: i32) -> bool
+    ensures { result ≡ unfit threads thread kind sample }
 {
-    if threads <= t as usize {
-        return true;
-    }
-    if k == 1 {
-        return false;
-    }
-    if k == 2 {
-        return !is_zero(x);
-    }
-    true
-}
-
-// The lowest operation that refusal 5 names.
-fn first_unfit(threads: usize, thread: &[u8], kind: &[u8], sample: &[i32]) -> Place
-    requires { (length kind.now ≡ length thread.now) × (length sample.now ≡ length thread.now) }
-    ensures { result ≡ lowest (unfit_at threads thread.now kind.now sample.now) (length thread.now) }
-{
-    let n = thread.len();
-    let mut i: usize = 0;
-    while i < n {
-        if is_unfit(threads, thread[i], kind[i], sample[i]) {
-            return Place::At(i);
+    threads <= thread as usize
+        || match kind {
+            1 => false,
+            2 => sample != 0,
+            _ => true,
         }
-        i += 1;
-    }
-    Place::Nowhere
 }
 
-// The lowest schedule entry that is no thread.
-fn first_stray(threads: usize, schedule: &[u8]) -> Place
-    ensures { result ≡ lowest (stray_at threads schedule.now) (length schedule.now) }
-{
-    let n = schedule.len();
-    let mut i: usize = 0;
-    while i < n {
-        if threads <= schedule[i] as usize {
-            return Place::At(i);
+impl Table<'_> {
+    // Whether the three lists are of one length.
+    fn is_together(&self) -> bool
+        ensures { result ≡ together self.now.thread.now self.now.kind.now self.now.sample.now }
+    {
+        self.kind.len() == self.thread.len() && self.sample.len() == self.thread.len()
+    }
+
+    // The lowest operation that refusal 5 names.
+    #[tactic(auto, using(crate::proofs::SearchLaws::lowest_first, crate::proofs::FitLaws::lowest_none))]
+    fn first_unfit(&self, threads: usize) -> Option<usize>
+        requires { IsEven self.now }
+        ensures { result ≡ lowest (unfit_at threads self.now.thread.now self.now.kind.now self.now.sample.now) (length self.now.thread.now) }
+    {
+        for o in 0..self.thread.len() {
+            if is_unfit(threads, self.thread[o], self.kind[o], self.sample[o]) {
+                return Some(o);
+            }
         }
-        i += 1;
+        None
     }
-    Place::Nowhere
-}
 
-// How many puts the table has.
-pub fn count_puts(kind: &[u8]) -> usize
-    ensures { result ≡ puts_in kind.now }
-{
-    let n = kind.len();
-    let mut puts: usize = 0;
-    let mut i: usize = 0;
-    while i < n {
-        if kind[i] == 1 {
-            puts += 1;
+    // Refusals 3, 4 and 5.
+    #[tactic(auto, unfolding(crate::specs::Parts::operations_refusal))]
+    fn check_operations(&self, threads: usize) -> Result<(), Refusal>
+        ensures { result ≡ operations_refusal threads self.now.thread.now self.now.kind.now self.now.sample.now }
+    {
+        if !self.is_together() {
+            return Err(Refusal::Lengths);
         }
-        i += 1;
+        if 128 < self.thread.len() {
+            return Err(Refusal::Operations);
+        }
+        match self.first_unfit(threads) {
+            Some(o) => Err(Refusal::Operation(o)),
+            None => Ok(()),
+        }
     }
-    puts
-}
 
-// Refusals 1, 3, 4 and 5: a number of threads and a table.
-pub fn check_table(threads: usize, thread: &[u8], kind: &[u8], sample: &[i32]) -> Fit
-    ensures { result ≡ table_refusal threads thread.now kind.now sample.now }
-{
-    if !is_within(1, 16, threads) {
-        return Fit::Refused(Refusal::Threads);
+    // Refusals 1, 3, 4 and 5: a number of threads and a table.
+    #[tactic(auto, using(crate::proofs::ChainLaws::table_chain))]
+    pub fn check(&self, threads: usize) -> Result<(), Refusal>
+        ensures { result ≡ table_refusal threads self.now.thread.now self.now.kind.now self.now.sample.now }
+    {
+        check_number(threads, 16, Refusal::Threads)?;
+        self.check_operations(threads)
     }
-    if !are_together(thread, kind, sample) {
-        return Fit::Refused(Refusal::Lengths);
-    }
-    if 128 < thread.len() {
-        return Fit::Refused(Refusal::Operations);
-    }
-    let place = first_unfit(threads, thread, kind, sample);
-    match place {
-        Place::At(o) => Fit::Refused(Refusal::Operation(o)),
-        Place::Nowhere => Fit::Pass,
-    }
-}
 
-// Refusals 6, 7 and 8: a schedule for a table that passes 1 to 5.
-fn check_schedule(threads: usize, slots: usize, kind: &[u8], schedule: &[u8]) -> Fit
-    ensures { result ≡ schedule_refusal threads slots kind.now schedule.now }
-{
-    if slots < count_puts(kind) {
-        return Fit::Refused(Refusal::Puts);
-    }
-    if 4096 < schedule.len() {
-        return Fit::Refused(Refusal::Schedule);
-    }
-    let place = first_stray(threads, schedule);
-    match place {
-        Place::At(i) => Fit::Refused(Refusal::Entry(i)),
-        Place::Nowhere => Fit::Pass,
+    // How many puts the table has.
+    #[tactic(auto, using(crate::proofs::SearchLaws::puts_counted))]
+    pub fn count_puts(&self) -> usize
+        ensures { result ≡ puts_in self.now.kind.now }
+    {
+        self.kind
+            .iter()
+            .filter(|kind| matches!(Kind::of(**kind), Kind::Put))
+            .count()
     }
 }
 
-// Refusals 1 to 8: all that a run asks of its input.
-pub fn check_input(
-    threads: usize,
-    slots: usize,
-    thread: &[u8],
-    kind: &[u8],
-    sample: &[i32],
-    schedule: &[u8],
-) -> Fit
-    ensures { result ≡ input_refusal (input_of threads slots thread.now kind.now sample.now schedule.now) }
-{
-    if !is_within(1, 16, threads) {
-        return Fit::Refused(Refusal::Threads);
+impl Input<'_> {
+    // The lowest schedule entry that is no thread.
+    fn first_stray(&self) -> Option<usize>
+        ensures { result ≡ lowest (stray_at self.now.threads self.now.schedule.now) (length self.now.schedule.now) }
+    {
+        let threads = self.threads;
+        self.schedule
+            .iter()
+            .position(|&thread| threads <= thread as usize)
     }
-    if !is_within(1, 64, slots) {
-        return Fit::Refused(Refusal::Slots);
+
+    // Refusals 6, 7 and 8: the schedule, for a table that passes 1 to 5.
+    #[tactic(auto, unfolding(crate::specs::Parts::schedule_refusal))]
+    fn check_schedule(&self) -> Result<(), Refusal>
+        ensures { result ≡ schedule_refusal self.now.threads self.now.slots self.now.table.kind.now self.now.schedule.now }
+    {
+        if self.slots < self.table.count_puts() {
+            return Err(Refusal::Puts);
+        }
+        if 4096 < self.schedule.len() {
+            return Err(Refusal::Schedule);
+        }
+        match self.first_stray() {
+            Some(i) => Err(Refusal::Entry(i)),
+            None => Ok(()),
+        }
     }
-    if !are_together(thread, kind, sample) {
-        return Fit::Refused(Refusal::Lengths);
-    }
-    if 128 < thread.len() {
-        return Fit::Refused(Refusal::Operations);
-    }
-    let place = first_unfit(threads, thread, kind, sample);
-    match place {
-        Place::At(o) => Fit::Refused(Refusal::Operation(o)),
-        Place::Nowhere => check_schedule(threads, slots, kind, schedule),
+
+    // Refusals 1 to 8: all that a run asks of its input.
+    #[tactic(auto, using(crate::proofs::ChainLaws::input_chain))]
+    pub fn check(&self) -> Result<(), Refusal>
+        ensures { result ≡ input_refusal (input_in self.now) }
+    {
+        check_number(self.threads, 16, Refusal::Threads)?;
+        check_number(self.slots, 64, Refusal::Slots)?;
+        self.table.check_operations(self.threads)?;
+        self.check_schedule()
     }
 }

@@ -5,7 +5,9 @@ use mathlib.Core.Option.{Option}
 use Prim.Native.Nat.{ℕ, ◌<◌}
 use lib.IntN.{ℤ}
 use Rattle.limits.specs.Lists.{All, Mem, Pw}
-use Rattle.limits.specs.Operations.{Kind, putting, taking, Table}
+use Rattle.limits.specs.declared.Kind.{Kind}
+use Rattle.limits.specs.declared.Kind.TheVariants.{Put as putting, Take as taking}
+use Rattle.limits.specs.Operations.{Table}
 use Rattle.history.specs.History.{Event, call, ret, Called, Returned, Precedes}
 use Rattle.history.proofs.ListLaws.{all_of_mem, mem_left, pw_imp}
 use Rattle.history.proofs.HistoryLaws.{mem_ret, ret_mem, mem_call, call_mem, Apart, once_ret, Sound}

@@ -5,7 +5,7 @@ ghost use Rattle.std.specs.Prelude.{◌≡◌};
 ghost use Rattle.linear.specs.Numbers.{verdict_number};
 
 // What the judge says of an order: that it is a linearization, or the first fault of the whole order.
-#[derive(Clone, Copy)]
+#[derive(Clone, Copy, Debug, PartialEq, Eq)]
 pub enum Verdict {
     Linear,
     NoOperation,
@@ -15,16 +15,18 @@ pub enum Verdict {
     Unplayable,
 }
 
-// The document's number of a verdict.
-pub fn number(v: Verdict) -> u8
-    ensures { result ≡ verdict_number v }
-{
-    match v {
-        Verdict::Linear => 0,
-        Verdict::NoOperation => 20,
-        Verdict::Uncalled => 21,
-        Verdict::Missing => 22,
-        Verdict::Turned => 23,
-        Verdict::Unplayable => 24,
+impl Verdict {
+    // The document's number of a verdict.
+    pub fn number(self) -> u8
+        ensures { result ≡ verdict_number self }
+    {
+        match self {
+            Verdict::Linear => 0,
+            Verdict::NoOperation => 20,
+            Verdict::Uncalled => 21,
+            Verdict::Missing => 22,
+            Verdict::Turned => 23,
+            Verdict::Unplayable => 24,
+        }
     }
 }

@@ -16,7 +16,9 @@ use Rattle.numerals.proofs.PrintLaws.{decimal_short}
 use Rattle.numerals.proofs.SampleLaws.{sample_short}
 use Rattle.limits.specs.declared.Refusal.{Refusal}
 use Rattle.limits.specs.Refusals.{refusal_told}
-use Rattle.limits.specs.Operations.{Kind, putting, taking, table_of}
+use Rattle.limits.specs.declared.Kind.{Kind}
+use Rattle.limits.specs.declared.Kind.TheVariants.{Put as putting, Take as taking}
+use Rattle.limits.specs.Operations.{table_of}
 use Rattle.history.specs.History.{ret, answer}
 use Rattle.history.proofs.CodeLaws.{by_parity}
 use Rattle.machine.specs.declared.Phase.{Phase}

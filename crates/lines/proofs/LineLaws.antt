@@ -3,13 +3,12 @@ use mathlib.Core.Path.{◌≡◌, refl, sym, ap}
 use mathlib.Core.Logic.{◌≢◌}
 use mathlib.Core.Bool.{Bool, cond}
 use mathlib.Core.List.{List, [], ◌∷◌, ◌++◌}
-use mathlib.Core.Option.{none, some}
 use Prim.Native.Nat.{ℕ, ◌/◌, ◌%◌}
 use borrow.Author.Tests.{eq-eqb, ne_eqb}
 use lib.IntN.{ℤ}
 use lib.ListN.{get_or}
-use Rattle.limits.specs.Operations.{putting, taking, table_of}
-use Rattle.history.specs.History.{call, ret, answer}
+use Rattle.limits.specs.Operations.{kind_of, table_of}
+use Rattle.history.specs.History.{call}
 use Rattle.history.proofs.CodeLaws.{event_call, event_ret}
 use Rattle.numerals.specs.Decimal.{decimal}
 use Rattle.machine.specs.declared.Phase.{Phase}
@@ -19,18 +18,11 @@ use Rattle.numerals.specs.Words.{bytes}
 use Rattle.lines.specs.Lines.{event_line, slot_line, thread_line}
 use Rattle.lines.specs.Twins.{return_by, event_by, slot_by, phase_text}
 
--- a put's return has no sample, a take's has one
-pub return_put : (o k : ℕ) (x : ℤ) → k ≡ 1 → event_line (ret o none) ≡ return_by o k x
-return_put o k x e = ap (λ (b : Bool). event_line (ret o (answer (cond b putting taking) x))) (sym (eq-eqb k 1 e))
-
-pub return_take : (o k : ℕ) (x : ℤ) → k ≢ 1 → event_line (ret o (some x)) ≡ return_by o k x
-return_take o k x n = ap (λ (b : Bool). event_line (ret o (answer (cond b putting taking) x))) (sym (ne_eqb k 1 n))
-
 -- an even code is a call's, an odd one a return's
 pub even_line : (kind : List ℕ) (c : ℕ) (x : ℤ) → c % 2 ≡ 0 → event_line (call (c / 2)) ≡ event_by kind c x
 even_line kind c x e = ap event_line (sym (event_call (table_of [] kind []) c x e))
 
-pub odd_line : (kind : List ℕ) (c : ℕ) (x : ℤ) → c % 2 ≢ 0 → return_by (c / 2) (get_or kind (c / 2) 0) x ≡ event_by kind c x
+pub odd_line : (kind : List ℕ) (c : ℕ) (x : ℤ) → c % 2 ≢ 0 → return_by (c / 2) (kind_of (get_or kind (c / 2) 0)) x ≡ event_by kind c x
 odd_line kind c x n = ap event_line (sym (event_ret (table_of [] kind []) c x n))
 
 -- a slot whose mark is 0 is empty, whatever sample stands beside it

@@ -1,4 +1,5 @@
--- The listing that the code makes of a run's lists is the listing of the bench. Assumes nothing.
+-- The listing that the code makes of what a run shows is the listing of the bench. Assumes nothing.
+use Rattle.std.specs.Prelude.{Ok}
 use mathlib.Core.Path.{◌≡◌, refl, sym, ap, ◌∙◌}
 use mathlib.Core.Bool.{cond}
 use mathlib.Core.List.{List, [], ◌∷◌, ◌++◌, map, append_assoc, append-nil}
@@ -6,10 +7,9 @@ use Prim.Native.Nat.{ℕ, zero, suc, ◌+◌, ◌*◌, ◌/◌, ◌<◌}
 use native.Mathlib.Nat.{zero-add, add-zero, add-suc, suc-add}
 use native.Mathlib.Omega.{arith}
 use lib.Dec.{eqb}
-use lib.IntN.{ℤ, pos}
-use lib.ListN.{length, get_or, drop, replicate, length-map, get_or-map, get_or-append}
-use Rattle.limits.specs.Operations.{Table, table_of, Input, input_of}
-use Rattle.limits.specs.declared.Fit.TheVariants.{Pass}
+use lib.IntN.{pos}
+use lib.ListN.{length, get_or, length-map, get_or-map}
+use Rattle.limits.specs.Operations.{Table, Input, table}
 use Rattle.limits.specs.Refusals.{input_refusal}
 use Rattle.limits.proofs.PassLaws.{input_passed}
 use Rattle.history.specs.History.{Event, call, ret, code_of, beside, answer, event_of}
@@ -19,15 +19,15 @@ use Rattle.history.proofs.PrecedenceLists.{all_get_or}
 use Rattle.machine.specs.declared.ThreadRecord.{ThreadRecord}
 use Rattle.machine.specs.Bench.{Bench, Slot, Empty, Filled, Worker, idler}
 use Rattle.machine.specs.Shown.{codes, samples, order, mark, held, records}
-use Rattle.machine.proofs.RunLaws.{Run, workers_length, slots_length, history_right}
+use Rattle.machine.proofs.RunLaws.{Run, history_right}
 use Rattle.run.specs.Run.{bench_after, summary_of}
 use Rattle.run.proofs.PassedLaws.{passed_run}
-use Rattle.run.specs.Core.{rest_record, records_after}
 use Rattle.lines.specs.Lines.{lines_from, event_line, order_line, slot_line, thread_line, count_lines, listing_of}
-use Rattle.listing.specs.Listing.{listing_text}
-use Rattle.numerals.specs.Words.{bytes, line}
-use Rattle.listing.specs.Twins.{upto, event_at, order_at, slot_at, thread_at, listing_by}
 use Rattle.numerals.specs.Decimal.{decimal}
+use Rattle.numerals.specs.Words.{bytes, line}
+use Rattle.listing.specs.declared.parts.Shown.{Shown}
+use Rattle.listing.specs.Listing.{listing_text}
+use Rattle.listing.specs.Twins.{upto, event_at, order_at, slot_at, thread_at, listing_by}
 
 -- ---- texts by index
 
@@ -75,54 +75,52 @@ slot_shown : (s : Slot) → cond (eqb (mark s) 0) Empty (Filled (held s)) ≡ s
 slot_shown Empty = refl
 slot_shown (Filled x) = refl
 
--- an entry of the first part of a list
-mapped_at : {A B : Type 0} (f : A → B) (l : List A) (rest : List B) (d : A) (i : ℕ) → i < length l → get_or (map f l ++ rest) i (f d) ≡ f (get_or l i d)
-mapped_at f l rest d i lt = get_or-append (map f l) rest (f d) i (rw (length-map l f) lt) ∙ get_or-map f l i d
-
 -- ---- the whole
 
-module _ (threads slots : ℕ) (thread kind : List ℕ) (sample : List ℤ) (schedule : List ℕ) (pass : input_refusal (input_of threads slots thread kind sample schedule) ≡ Pass) where
-  abbrev asked : Input
-  asked = input_of threads slots thread kind sample schedule
+-- a struct shows the bench after the schedule of an input
+pub record Shows (i : Input) (s : Shown) : Type 0 where
+  pub summary : s.summary ≡ summary_of i
+  pub kind : s.kind.now ≡ i.kind
+  pub codes : s.codes.now ≡ codes (bench_after i)
+  pub values : s.values.now ≡ samples (bench_after i)
+  pub order : s.order.now ≡ order (bench_after i)
+  pub marks : s.marks.now ≡ map mark (bench_after i).slots
+  pub held : s.held.now ≡ map held (bench_after i).slots
+  pub records : s.records.now ≡ records (bench_after i)
 
-  abbrev T : Table
-  T = table_of thread kind sample
-
+module _ (i : Input) (pass : input_refusal i ≡ Ok tt) where
   abbrev B : Bench
-  B = bench_after asked
+  B = bench_after i
 
-  run : Run T threads slots B
-  run = passed_run asked (input_passed asked pass)
+  event_lines : upto (event_at i.kind (codes B) (samples B)) (length (codes B)) ≡ lines_from (λ k e. event_line e) 0 B.history
+  event_lines =
+      let T = table i in
+      let run : Run T i.threads i.slots B = passed_run i (input_passed i pass) in
+      let few : length B.history ≡ length (codes B) = sym (length-map B.history code_of) in
+      lines_by (λ k e. event_line e) (call 0) (event_at i.kind (codes B) (samples B)) (length (codes B)) B.history few
+      (λ k lt. (λ j. event_line (event_of T (get_or-map code_of B.history k (call 0) j) (get_or-map beside B.history k (call 0) j)))
+      ∙ ap event_line (event_shown T (get_or B.history k (call 0)) (all_get_or (Right T) B.history (call 0) (history_right T i.threads i.slots B run) k (omega (arith, few)))))
 
-  -- cs, vs, os, ms and hs are what stands after the run's entries in the lists
-  module _ (cs : List ℕ) (vs : List ℤ) (os ms : List ℕ) (hs : List ℤ) where
-    event_lines : upto (event_at kind (codes B ++ cs) (samples B ++ vs)) (length B.history) ≡ lines_from (λ i e. event_line e) 0 B.history
-    event_lines = lines_by (λ i e. event_line e) (call 0) (event_at kind (codes B ++ cs) (samples B ++ vs)) (length B.history) B.history refl
-        (λ i lt. (λ j. event_line (event_of T (mapped_at code_of B.history cs (call 0) i lt j) (mapped_at beside B.history vs (call 0) i lt j)))
-        ∙ ap event_line (event_shown T (get_or B.history i (call 0)) (all_get_or (Right T) B.history (call 0) (history_right T threads slots B run) i lt)))
+  order_lines : upto (order_at (order B)) (length (order B)) ≡ lines_from (λ k o. order_line o) 0 (order B)
+  order_lines = lines_by (λ k o. order_line o) 0 (order_at (order B)) (length (order B)) (order B) refl (λ k lt. refl)
 
-    order_lines : upto (order_at (order B ++ os)) (length (order B)) ≡ lines_from (λ i o. order_line o) 0 (order B)
-    order_lines = lines_by (λ i o. order_line o) 0 (order_at (order B ++ os)) (length (order B)) (order B) refl (λ i lt. ap order_line (get_or-append (order B) os 0 i lt))
+  slot_lines : upto (slot_at (map mark B.slots) (map held B.slots)) (length (map mark B.slots)) ≡ lines_from slot_line 0 B.slots
+  slot_lines =
+      lines_by slot_line Empty (slot_at (map mark B.slots) (map held B.slots)) (length (map mark B.slots)) B.slots (sym (length-map B.slots mark))
+      (λ k lt. (λ j. slot_line k (cond (eqb (get_or-map mark B.slots k Empty j) 0) Empty (Filled (get_or-map held B.slots k Empty j)))) ∙ ap (slot_line k) (slot_shown (get_or B.slots k Empty)))
 
-    slot_lines : upto (slot_at (map mark B.slots ++ ms) (map held B.slots ++ hs)) slots ≡ lines_from slot_line 0 B.slots
-    slot_lines =
-        let e = slots_length T threads slots B run in
-        lines_by slot_line Empty (slot_at (map mark B.slots ++ ms) (map held B.slots ++ hs)) slots B.slots e
-        (λ i lt. let low : i < length B.slots = omega arith in
-        (λ j. slot_line i (cond (eqb (mapped_at mark B.slots ms Empty i low j) 0) Empty (Filled (mapped_at held B.slots hs Empty i low j)))) ∙ ap (slot_line i) (slot_shown (get_or B.slots i Empty)))
+  thread_lines : upto (thread_at (records B)) (length (records B)) ≡ lines_from (λ t w. thread_line t w.phase) 0 B.workers
+  thread_lines =
+      let shown : Worker → ThreadRecord = λ w. record { phase = w.phase } in
+      lines_by (λ t w. thread_line t w.phase) idler (thread_at (records B)) (length (records B)) B.workers (sym (length-map B.workers shown))
+      (λ k lt. ap (λ (r : ThreadRecord). thread_line k r.phase) (get_or-map shown B.workers k idler))
 
-    thread_lines : upto (thread_at (records_after Pass threads B)) threads ≡ lines_from (λ t w. thread_line t w.phase) 0 B.workers
-    unfolding records_after
-    thread_lines =
-        let e = workers_length T threads slots B run in
-        lines_by (λ t w. thread_line t w.phase) idler (thread_at (records B ++ drop threads (replicate 16 rest_record))) threads B.workers e
-        (λ i lt. let low : i < length B.workers = omega arith in
-        ap (λ (r : ThreadRecord). thread_line i r.phase) (mapped_at (λ (w : Worker). record { phase = w.phase }) B.workers (drop threads (replicate 16 rest_record)) idler i low))
-
-    pub listing_same : listing_by (summary_of asked) (records_after Pass threads B) threads slots kind
-        (codes B ++ cs) (samples B ++ vs) (order B ++ os) (map mark B.slots ++ ms) (map held B.slots ++ hs)
-        ≡ listing_text asked
-    unfolding listing_by listing_text listing_of summary_of
-    listing_same =
-        let s = summary_of asked in
-        λ i. line (bytes "back" ∷ decimal s.back ∷ []) ++ (event_lines i ++ (order_lines i ++ (slot_lines i ++ (thread_lines i ++ count_lines s))))
+  pub listing_same : (s : Shown) → Shows i s → listing_by s ≡ listing_text i
+  unfolding listing_by listing_text listing_of summary_of
+  listing_same s x =
+      (λ j. line (bytes "back" ∷ decimal (x.summary j).back ∷ [])
+      ++ (upto (event_at (x.kind j) (x.codes j) (x.values j)) (length (x.codes j))
+      ++ (upto (order_at (x.order j)) (length (x.order j))
+      ++ (upto (slot_at (x.marks j) (x.held j)) (length (x.marks j))
+      ++ (upto (thread_at (x.records j)) (length (x.records j)) ++ count_lines (x.summary j))))))
+      ∙ (λ j. line (bytes "back" ∷ decimal (summary_of i).back ∷ []) ++ (event_lines j ++ (order_lines j ++ (slot_lines j ++ (thread_lines j ++ count_lines (summary_of i))))))

@@ -11,7 +11,9 @@ use native.Mathlib.Omega.{arith}
 use lib.IntN.{ℤ}
 use lib.ListN.{length, get_or, set}
 use Rattle.limits.specs.Lists.{All, Mem, Pw}
-use Rattle.limits.specs.Operations.{Kind, putting, taking, Table}
+use Rattle.limits.specs.declared.Kind.{Kind}
+use Rattle.limits.specs.declared.Kind.TheVariants.{Put as putting, Take as taking}
+use Rattle.limits.specs.Operations.{Table}
 use Rattle.history.specs.History.{Event, call, ret, Called, Precedes}
 use Rattle.history.proofs.ListLaws.{clash, all_imp, all_imp₂, all_of_mem, pw_imp}
 use Rattle.history.proofs.PrecedenceLists.{all_snoc, all_get_or, pw_snoc, pw_get_or, set_case, get_or_snoc, once_get_or}

@@ -11,7 +11,8 @@ use lib.Dec.{eqb}
 use lib.IntN.{ℤ}
 use lib.ListN.{length, get_or, set, replicate}
 use Rattle.limits.specs.Lists.{All, Mem, Pw}
-use Rattle.limits.specs.Operations.{putting, taking, Table, kind_of, table_of, puts_in}
+use Rattle.limits.specs.declared.Kind.TheVariants.{Put as putting, Take as taking}
+use Rattle.limits.specs.Operations.{Table, kind_of, table_of, puts_in}
 use Rattle.history.proofs.ListLaws.{clash, all_imp, mem_left}
 use Rattle.history.proofs.PrecedenceLists.{all_snoc, mem_get_or, pw_map_to, sub_length, length_snoc}
 use Rattle.order.specs.Order.{found_puts}

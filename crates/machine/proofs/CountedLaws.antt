@@ -12,7 +12,9 @@ use lib.ListN.{get_or, set}
 use lib.Seq.{get_or-set_same}
 use borrow.Author.Tests.{ltb-true, ltb-false, eq-eqb, ne_eqb}
 use Rattle.limits.specs.Lists.{All}
-use Rattle.limits.specs.Operations.{Kind, putting, taking, Table}
+use Rattle.limits.specs.declared.Kind.{Kind}
+use Rattle.limits.specs.declared.Kind.TheVariants.{Put as putting, Take as taking}
+use Rattle.limits.specs.Operations.{Table}
 use Rattle.machine.specs.declared.Phase.{Phase}
 use Rattle.machine.specs.declared.Phase.TheVariants.{Rest, CalledPut, Reserved, Stored, CalledTake, Scanning, Holding}
 use Rattle.machine.specs.Bench.{Slot, Empty, Filled, Worker, Bench, back, idler, worker_at, in_phase, first_phase, calls, pass, onward, swaps, step_from, step, start}

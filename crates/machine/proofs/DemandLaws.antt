@@ -12,7 +12,9 @@ use native.Mathlib.Omega.{arith}
 use lib.IntN.{ℤ}
 use lib.ListN.{length, get_or, get_or-eq_default}
 use Rattle.limits.specs.Lists.{All, Mem, Pw}
-use Rattle.limits.specs.Operations.{Kind, putting, taking, Table}
+use Rattle.limits.specs.declared.Kind.{Kind}
+use Rattle.limits.specs.declared.Kind.TheVariants.{Put as putting, Take as taking}
+use Rattle.limits.specs.Operations.{Table}
 use Rattle.history.specs.History.{Event, ret, Called, Returned, Precedes}
 use Rattle.history.proofs.ListLaws.{clash, all_imp, all_imp₂, all_mem, all_of_mem, all_append, mem_left, mem_right, pw_append}
 use Rattle.history.proofs.PrecedenceLists.{pw_map_to}

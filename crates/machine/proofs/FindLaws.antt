@@ -13,7 +13,8 @@ use lib.IntN.{ℤ}
 use lib.ListN.{length, get_or, set, replicate}
 use lib.Seq.{get_or-set_same}
 use Rattle.limits.specs.Lists.{All, Mem, Pw}
-use Rattle.limits.specs.Operations.{putting, taking, Table}
+use Rattle.limits.specs.declared.Kind.TheVariants.{Put as putting, Take as taking}
+use Rattle.limits.specs.Operations.{Table}
 use Rattle.history.specs.History.{Event, ret, Called, Returned}
 use Rattle.history.proofs.ListLaws.{clash, mem_left}
 use Rattle.history.proofs.PrecedenceLists.{mem_snoc, mem_last, set_case}

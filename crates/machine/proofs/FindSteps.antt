@@ -10,7 +10,9 @@ use lib.IntN.{ℤ}
 use lib.ListN.{length, get_or, set, length-append, get_or-append}
 use lib.Seq.{get_or-set_same, get_or-set_other}
 use Rattle.limits.specs.Lists.{All, Mem}
-use Rattle.limits.specs.Operations.{Kind, putting, taking, Table}
+use Rattle.limits.specs.declared.Kind.{Kind}
+use Rattle.limits.specs.declared.Kind.TheVariants.{Put as putting, Take as taking}
+use Rattle.limits.specs.Operations.{Table}
 use Rattle.history.specs.History.{Event, call, ret, Called, Returned}
 use Rattle.history.proofs.HistoryLaws.{mem_ret}
 use Rattle.history.proofs.ListLaws.{clash, all_imp, all_mem, all_of_mem, mem_left}

@@ -11,7 +11,9 @@ use native.Mathlib.Omega.{arith}
 use lib.IntN.{ℤ}
 use lib.ListN.{length, get_or, take}
 use Rattle.limits.specs.Lists.{All, Pw}
-use Rattle.limits.specs.Operations.{Kind, putting, Table, table_of, puts_in}
+use Rattle.limits.specs.declared.Kind.{Kind}
+use Rattle.limits.specs.declared.Kind.TheVariants.{Put as putting}
+use Rattle.limits.specs.Operations.{Table, table_of, puts_in}
 use Rattle.history.specs.History.{Called}
 use Rattle.history.specs.Standing.{Stands}
 use Rattle.history.proofs.PrecedenceLists.{all_of_get_or, all_take}

@@ -12,7 +12,9 @@ use lib.Dec.{ltb, ltb→lt}
 use lib.IntN.{ℤ}
 use lib.ListN.{length, get_or, set, replicate, length-set, length-replicate}
 use Rattle.limits.specs.Lists.{All, Mem, Pw}
-use Rattle.limits.specs.Operations.{Kind, putting, taking, Table}
+use Rattle.limits.specs.declared.Kind.{Kind}
+use Rattle.limits.specs.declared.Kind.TheVariants.{Put as putting, Take as taking}
+use Rattle.limits.specs.Operations.{Table}
 use Rattle.history.specs.History.{Event, call, ret, Called}
 use Rattle.history.proofs.ListLaws.{clash, all_imp, all_mem, all_of_mem}
 use Rattle.history.proofs.PrecedenceLists.{all_snoc, pw_snoc, mem_snoc, set_case, set_any, length_snoc, get_or_snoc, get_or_last}

@@ -14,7 +14,9 @@ use native.Mathlib.Omega.{arith}
 use lib.Dec.{eqb, T as Holds, eqb→eq, eqb_refl}
 use lib.ListN.{length, get_or}
 use Rattle.limits.specs.Lists.{All}
-use Rattle.limits.specs.Operations.{Kind, putting, taking, Table}
+use Rattle.limits.specs.declared.Kind.{Kind}
+use Rattle.limits.specs.declared.Kind.TheVariants.{Put as putting, Take as taking}
+use Rattle.limits.specs.Operations.{Table}
 use Rattle.history.specs.History.{Event, Called, Returned}
 use Rattle.history.specs.Standing.{Stands}
 use Rattle.history.proofs.HistoryLaws.{Right, Sound, standing}

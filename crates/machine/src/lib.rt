@@ -2,7 +2,7 @@
 #![tactic(auto)]
 
 // A thread's phase, with its number where it has one: the slot reserved; the next slot of a pass, and the pass's end; the sample found.
-#[derive(Clone, Copy)]
+#[derive(Clone, Copy, Debug, PartialEq, Eq)]
 pub enum Phase {
     Rest,
     CalledPut,
@@ -14,7 +14,7 @@ pub enum Phase {
 }
 
 // A thread at the end of a run.
-#[derive(Clone, Copy)]
+#[derive(Clone, Copy, Debug, PartialEq, Eq)]
 pub struct ThreadRecord {
     pub phase: Phase,
 }

@@ -1,4 +1,5 @@
 -- Reading a printed number gives the number, and printing a number that was read gives its text. Assumes nothing.
+use Rattle.std.specs.Prelude.{Some}
 use mathlib.Core.Path.{◌≡◌, refl, sym, ◌∙◌, ap}
 use mathlib.Core.Bool.{Bool, true, false, cond}
 use mathlib.Core.List.{List, [], ◌∷◌, ◌++◌, append_assoc, append-nil}
@@ -7,7 +8,6 @@ use native.Mathlib.Omega.{arith}
 use lib.ListN.{length, get_or, length-append, get_or-append}
 use lib.Dec.{leb, ltb, eqb}
 use borrow.Author.Tests.{ltb-true, ltb-false, leb-true, le-leb, eqb-false}
-use Rattle.numerals.specs.declared.Digits.TheVariants.{Value}
 use Rattle.numerals.specs.Decimal.{dec, decimal}
 use Rattle.numerals.specs.Reading.{is_digit, all_digits, value, plain, digits_of}
 use Rattle.numerals.proofs.DigitLaws.{is_digit_between, plain_more}
@@ -72,7 +72,7 @@ plain_decimal n = go (ltb n 10) refl
     go false e = plain_more (dec n n) (long (ltb-false n 10 e)) (head_dec n n (omega arith) (omega (arith, ltb-false n 10 e))) ∙ all_dec n n (omega arith)
 
 -- reading what was printed gives the number
-pub read_printed : (n limit : ℕ) → n ≤ limit → digits_of (decimal n) limit ≡ Value n
+pub read_printed : (n limit : ℕ) → n ≤ limit → digits_of (decimal n) limit ≡ Some n
 unfolding decimal
 read_printed n limit h = rw (plain_decimal n, value_dec n n (omega arith), le-leb n limit h)
 

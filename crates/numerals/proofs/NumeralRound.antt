@@ -2,6 +2,7 @@
 --   number_exact, sample_exact
 --                        a number is read from a text exactly where it is at most 255 and the text its own; a sample where it fits 32 signed bits
 --   NumberIs, SampleIs   what is known of a text by its reading: it is the text of the number or sample read, which is within its bounds
+use Rattle.std.specs.Prelude.{None, Option, Some}
 use mathlib.Core.Path.{◌≡◌, refl, sym, ◌∙◌, ap, subst}
 use mathlib.Core.Logic.{◌↔◌}
 use mathlib.Core.Bool.{Bool, true, false, cond}
@@ -13,15 +14,9 @@ use lib.IntN.{ℤ}
 use mir.Syntax.{w32}
 use mir.Val.{SFits}
 use borrow.Author.Tests.{eqb-true, leb-true}
-use Rattle.numerals.specs.declared.Digits.{Digits}
-use Rattle.numerals.specs.declared.Digits.TheVariants as D
-use Rattle.numerals.specs.declared.Number.{Number}
-use Rattle.numerals.specs.declared.Number.TheVariants as N
-use Rattle.numerals.specs.declared.Sample.{Sample}
-use Rattle.numerals.specs.declared.Sample.TheVariants as S
 use Rattle.numerals.specs.Decimal.{decimal}
 use Rattle.numerals.specs.Samples.{sample_text}
-use Rattle.numerals.specs.Reading.{value, plain, digits_of, number_from, number_of, sample_of, plus_of, minus_of}
+use Rattle.numerals.specs.Reading.{value, plain, digits_of, number_of, sample_of, plus_of, minus_of}
 use Rattle.numerals.proofs.DecimalRound.{read_printed, printed_read}
 use Rattle.numerals.proofs.SampleLaws.{sample_round}
 
@@ -30,47 +25,47 @@ pub cond_elim : {A : Type 0} (P : A → Type 0) (b : Bool) (x y : A) → (b ≡ 
 cond_elim P true x y f g = f refl
 cond_elim P false x y f g = g refl
 
-abbrev pub DigitsAre : ℕ → Digits → List ℕ → Type 0
-DigitsAre limit (D.Value v) s = (decimal v ≡ s) × (v ≤ limit)
-DigitsAre limit D.Bad s = Unit {0}
+abbrev pub DigitsAre : ℕ → Option ℕ → List ℕ → Type 0
+DigitsAre limit (Some v) s = (decimal v ≡ s) × (v ≤ limit)
+DigitsAre limit None s = Unit {0}
 
-abbrev pub NumberIs : Number → List ℕ → Type 0
-NumberIs (N.Is v) s = (decimal v ≡ s) × (v ≤ 255)
-NumberIs N.Bad s = Unit {0}
+abbrev pub NumberIs : Option ℕ → List ℕ → Type 0
+NumberIs (Some v) s = (decimal v ≡ s) × (v ≤ 255)
+NumberIs None s = Unit {0}
 
-abbrev pub SampleIs : Sample → List ℕ → Type 0
-SampleIs (S.Is x) s = (sample_text x ≡ s) × SFits w32 x
-SampleIs S.Bad s = Unit {0}
+abbrev pub SampleIs : Option ℤ → List ℕ → Type 0
+SampleIs (Some x) s = (sample_text x ≡ s) × SFits w32 x
+SampleIs None s = Unit {0}
 
 pub digits_are : (s : List ℕ) (limit : ℕ) → DigitsAre limit (digits_of s limit) s
 digits_are s limit =
-    cond_elim (λ d. DigitsAre limit d s) (plain s) (cond (leb (value 0 s) limit) (D.Value (value 0 s)) D.Bad) D.Bad
-    (λ p. cond_elim (λ d. DigitsAre limit d s) (leb (value 0 s) limit) (D.Value (value 0 s)) D.Bad (λ q. (printed_read s p, leb-true (value 0 s) limit q)) (λ _. tt)) (λ _. tt)
+    cond_elim (λ d. DigitsAre limit d s) (plain s) (cond (leb (value 0 s) limit) (Some (value 0 s)) None) None
+    (λ p. cond_elim (λ d. DigitsAre limit d s) (leb (value 0 s) limit) (Some (value 0 s)) None (λ q. (printed_read s p, leb-true (value 0 s) limit q)) (λ _. tt)) (λ _. tt)
 
 -- reading a printed number gives it back
-pub number_round : (n : ℕ) → n ≤ 255 → number_of (decimal n) ≡ N.Is n
+pub number_round : (n : ℕ) → n ≤ 255 → number_of (decimal n) ≡ Some n
 unfolding number_of
-number_round n h = ap number_from (read_printed n 255 h)
+number_round n h = read_printed n 255 h
 
 -- printing a number that was read gives its text
 pub number_is : (s : List ℕ) → NumberIs (number_of s) s
 unfolding number_of
 number_is s = go (digits_of s 255) (digits_are s 255)
   where
-    go : (d : Digits) → DigitsAre 255 d s → NumberIs (number_from d) s
-    go (D.Value v) h = h
-    go D.Bad h = tt
+    go : (d : Option ℕ) → DigitsAre 255 d s → NumberIs d s
+    go (Some v) h = h
+    go None h = tt
 
-plus_is : (s : List ℕ) (d : Digits) → DigitsAre 2147483647 d s → SampleIs (plus_of d) s
+plus_is : (s : List ℕ) (d : Option ℕ) → DigitsAre 2147483647 d s → SampleIs (plus_of d) s
 unfolding sample_text
-plus_is s (D.Value v) h = (h.0, record { sfits = omega (arith, h.1) })
-plus_is s D.Bad h = tt
+plus_is s (Some v) h = (h.0, record { sfits = omega (arith, h.1) })
+plus_is s None h = tt
 
-minus_is : (c : ℕ) (s : List ℕ) (d : Digits) → c ≡ 45 → DigitsAre 2147483648 d s → SampleIs (minus_of d) (c ∷ s)
+minus_is : (c : ℕ) (s : List ℕ) (d : Option ℕ) → c ≡ 45 → DigitsAre 2147483648 d s → SampleIs (minus_of d) (c ∷ s)
 unfolding sample_text
-minus_is c s (D.Value zero) e h = tt
-minus_is c s (D.Value (suc k)) e h = ((λ i. sym e i ∷ h.0 i), record { sfits = omega (arith, h.1) })
-minus_is c s D.Bad e h = tt
+minus_is c s (Some zero) e h = tt
+minus_is c s (Some (suc k)) e h = ((λ i. sym e i ∷ h.0 i), record { sfits = omega (arith, h.1) })
+minus_is c s None e h = tt
 
 -- printing a sample that was read gives its text
 pub sample_is : (s : List ℕ) → SampleIs (sample_of s) s
@@ -81,10 +76,10 @@ sample_is (c ∷ s) =
     (λ e. minus_is c s (digits_of s 2147483648) (eqb-true c 45 e) (digits_are s 2147483648)) (λ e. plus_is (c ∷ s) (digits_of (c ∷ s) 2147483647) (digits_are (c ∷ s) 2147483647))
 
 -- ---- what is read, and from which text
-pub number_exact : (s : List ℕ) (n : ℕ) → (number_of s ≡ N.Is n) ↔ ((n ≤ 255) × (s ≡ decimal n))
+pub number_exact : (s : List ℕ) (n : ℕ) → (number_of s ≡ Some n) ↔ ((n ≤ 255) × (s ≡ decimal n))
 number_exact s n =
-    (λ e. let h = subst (λ (r : Number). NumberIs r s) e (number_is s) in (h.1, sym h.0), λ h. ap number_of h.1 ∙ number_round n h.0)
+    (λ e. let h = subst (λ (r : Option ℕ). NumberIs r s) e (number_is s) in (h.1, sym h.0), λ h. ap number_of h.1 ∙ number_round n h.0)
 
-pub sample_exact : (s : List ℕ) (x : ℤ) → (sample_of s ≡ S.Is x) ↔ (SFits w32 x × (s ≡ sample_text x))
+pub sample_exact : (s : List ℕ) (x : ℤ) → (sample_of s ≡ Some x) ↔ (SFits w32 x × (s ≡ sample_text x))
 sample_exact s x =
-    (λ e. let h = subst (λ (r : Sample). SampleIs r s) e (sample_is s) in (h.1, sym h.0), λ h. ap sample_of h.1 ∙ sample_round x h.0)
+    (λ e. let h = subst (λ (r : Option ℤ). SampleIs r s) e (sample_is s) in (h.1, sym h.0), λ h. ap sample_of h.1 ∙ sample_round x h.0)

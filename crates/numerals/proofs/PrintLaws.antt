@@ -1,18 +1,20 @@
--- Laws of printing: the digits of a number from the last to the first, and texts put one after another. Assumes nothing.
---   lows k n   the k lowest digits of n
+-- Laws of printing: the digits of a number, and texts put one after another. Assumes nothing.
 use mathlib.Core.Path.{◌≡◌, refl, sym, ◌∙◌, ap, subst}
 use mathlib.Core.Bool.{Bool, true, false}
 use mathlib.Core.List.{List, [], ◌∷◌, ◌++◌, append_assoc}
-use Prim.Native.Nat.{ℕ, zero, suc, ◌+◌, ◌-◌, ◌*◌, ◌/◌, ◌%◌, ◌≤◌, ◌<◌}
+use Prim.Native.Nat.{ℕ, zero, suc, ◌+◌, ◌*◌, ◌/◌, ◌%◌, ◌≤◌, ◌<◌}
 use native.Mathlib.Omega.{arith}
 use native.Mathlib.Nat.{add-zero, add-suc, suc-add}
-use lib.ListN.{length, set, get_or, take, length-append}
-use lib.Seq.{sets, take-suc, length-take-le, set_comm, set_out, length-sets}
+use borrow.Rule.Slice.PartMut.{put_mid}
+use lib.ListN.{length, set, take, drop, length-append}
+use Rattle.std.proofs.lemmas.List.Edits.{sets-eq, paste_all}
+use Rattle.std.proofs.lemmas.Slice.{put_mid-paste}
+use lib.Seq.{sets, set_out, length-sets}
 use lib.Dec.{ltb, leb}
-use native.Mathlib.Numerals.{add-one}
 use borrow.Author.Tests.{lt-ltb, le-ltb, ltb-true, ltb-false, leb-true, leb-false}
 use Rattle.numerals.specs.Decimal.{dec, decimal}
-use Rattle.numerals.specs.Places.{after, Put}
+use Rattle.numerals.specs.declared.Page.{Page}
+use Rattle.numerals.specs.Places.{after, Put, Wrote}
 
 -- any bound from n on gives the same digits
 pub dec_enough : (k j n : ℕ) → n ≤ k → n ≤ j → dec k n ≡ dec j n
@@ -43,43 +45,10 @@ long_decimal n = go (ltb n 10) refl
     go true q = omega (arith, length_one n (ltb-true n 10 q))
     go false q = omega (arith, length_more n (ltb-false n 10 q))
 
-abbrev pub lows : ℕ → ℕ → List ℕ
-lows zero n = []
-lows (suc k) n = lows k (n / 10) ++ ((48 + n % 10) ∷ [])
-
--- a number's digits are its lowest digits, as many as it has
-pub decimal_lows : (k n : ℕ) → length (decimal n) ≡ k → decimal n ≡ lows k n
-decimal_lows zero n e = go (ltb n 10) refl
-  where
-    go : (b : Bool) → ltb n 10 ≡ b → decimal n ≡ []
-    go true q = absurd (omega (arith, length_one n (ltb-true n 10 q)))
-    go false q = absurd (omega (arith, length_more n (ltb-false n 10 q)))
-decimal_lows (suc zero) n e = go (ltb n 10) refl
-  where
-    go : (b : Bool) → ltb n 10 ≡ b → decimal n ≡ (48 + n % 10) ∷ []
-    go true q = decimal_one n (ltb-true n 10 q) ∙ ap (λ (d : ℕ). (48 + d) ∷ []) (omega (arith, ltb-true n 10 q))
-    go false q = absurd (omega (arith, length_more n (ltb-false n 10 q), long_decimal (n / 10)))
-decimal_lows (suc (suc k)) n e = go (ltb n 10) refl (decimal_lows (suc k) (n / 10))
-  where
-    go : (b : Bool) → ltb n 10 ≡ b → (length (decimal (n / 10)) ≡ suc k → decimal (n / 10) ≡ lows (suc k) (n / 10)) → decimal n ≡ lows (suc (suc k)) n
-    go true q ih = absurd (omega (arith, length_one n (ltb-true n 10 q)))
-    go false q ih =
-        decimal_more n (ltb-false n 10 q) ∙ ap (λ (s : List ℕ). s ++ ((48 + n % 10) ∷ [])) (ih (omega (arith, length_more n (ltb-false n 10 q))))
-
--- a store before a text that was put is a store under it
-pub set_sets : {A : Type 0} (l : List A) (i j : ℕ) (v : A) (vs : List A) → i < j → set (sets l j vs) i v ≡ sets (set l i v) j vs
-set_sets l i j v [] h = refl
-set_sets {A = A} l i j v (w ∷ vs) h = set_sets (set l j w) i (suc j) v vs (omega arith) ∙ ap (λ (x : List A). sets x (suc j) vs) (set_comm l j i w v (λ e. omega arith))
-
 -- one entry more, at the place after those that are stored
 pub sets_snoc : {A : Type 0} (l : List A) (i : ℕ) (vs : List A) (v : A) → set (sets l i vs) (i + length vs) v ≡ sets l i (vs ++ (v ∷ []))
 sets_snoc l i [] v = rw (add-zero i)
 sets_snoc l i (w ∷ vs) v = rw (add-suc i (length vs), ← suc-add i (length vs)) (sets_snoc (set l i w) (suc i) vs v)
-
--- one entry more of w
-pub sets_next : {A : Type 0} (l : List A) (at : ℕ) (w : List A) (i : ℕ) (d : A) → i < length w → set (sets l at (take i w)) (at + i) (get_or w i d) ≡ sets l at (take (i + 1) w)
-sets_next l at w i d h =
-    ap (λ (k : ℕ). set (sets l at (take i w)) (at + k) (get_or w i d)) (sym (length-take-le i w (omega arith))) ∙ sets_snoc l at (take i w) (get_or w i d) ∙ rw (add-one, take-suc w i d)
 
 -- one text after another
 pub sets_append : {A : Type 0} (l : List A) (i : ℕ) (vs ws : List A) → sets (sets l i vs) (i + length vs) ws ≡ sets l i (vs ++ ws)
@@ -90,6 +59,14 @@ sets_append l i (v ∷ vs) ws = rw (add-suc i (length vs), ← suc-add i (length
 pub sets_out : {A : Type 0} (l : List A) (i : ℕ) (vs : List A) → length l ≤ i → sets l i vs ≡ l
 sets_out l i [] h = refl
 sets_out {A = A} l i (v ∷ vs) h = ap (λ (x : List A). sets x (suc i) vs) (set_out l i v h) ∙ sets_out l (suc i) vs (omega arith)
+
+-- a text that fits, copied over a part of the list, is stored byte by byte
+pub sets_over : {A : Type 0} (l w : List A) (at k : ℕ) (part : List A) → at + length w ≤ length l → length w ≡ k → part ≡ w → put_mid at k l part ≡ sets l at w
+sets_over l w at k part fits e same =
+    put_mid-paste at k l part w (length w) same e refl
+    ∙ paste_all l at w (length w) refl
+    ∙ sym (append_assoc (take at l) w (drop (at + length w) l))
+    ∙ sym (sets-eq w l at fits)
 
 -- a place that stands for a sum that no list reaches
 pub sets_after : {A : Type 0} (l : List A) (at n : ℕ) (vs : List A) → length l ≤ 18446744073709551615 → sets l (after at n) vs ≡ sets l (at + n) vs
@@ -113,30 +90,31 @@ put_then {out} {out₁} {out₂} {v} {w} {at} {r₁} {r₂} h p q =
           ∙ sets_append out at v w;
     }
 
--- what was put as one text was put as any other that is equal to it
-pub put_as : {out new v w : List ℕ} {at r : ℕ} → v ≡ w → Put out at v r new → Put out at w r new
-put_as {out} {new} {v} {w} {at} {r} e p = subst (λ (x : List ℕ). Put out at x r new) e p
-
 -- nothing put leaves the list and the place as they are
 pub put_none : (out : List ℕ) (at : ℕ) → at ≤ 18446744073709551615 → Put out at [] at out
 put_none out at h = record { place = omega arith; text = refl }
 
--- one digit more, before those that stand already
-pub digit_next :
-    (l : List ℕ) (at i n rest : ℕ) (out s : List ℕ)
-    → 0 < i
-    → decimal n ≡ lows i rest ++ s
-    → out ≡ sets l (at + i) s
-    → (decimal n ≡ lows (i - 1) (rest / 10) ++ ((48 + rest % 10) ∷ s)) × (set out (at + (i - 1)) (48 + rest % 10) ≡ sets l (at + (i - 1)) ((48 + rest % 10) ∷ s))
-digit_next l at zero n rest out s h d e = absurd (omega arith)
-digit_next l at (suc k) n rest out s h d e =
-    let v = 48 + rest % 10 in
-    let q : k ≡ suc k - 1 = omega arith in
-    let p : at + suc k ≡ suc (at + k) = omega arith in (
-      d ∙ append_assoc (lows k (rest / 10)) (v ∷ []) s ∙ ap (λ (j : ℕ). lows j (rest / 10) ++ (v ∷ s)) q,
-      subst (λ (j : ℕ). set out (at + j) v ≡ sets l (at + j) (v ∷ s)) q
-          (ap (λ (x : List ℕ). set x (at + k) v) (e ∙ ap (λ (j : ℕ). sets l j s) p) ∙ set_sets l (at + k) (suc (at + k)) v s (omega arith)),
-    )
+-- the same of pages
+pub wrote_then : {p q r : Page} {v w : List ℕ} → Wrote p v q → Wrote q w r → Wrote p (v ++ w) r
+wrote_then {p} x y = record { same = y.same ∙ x.same; put = put_then p.reach x.put y.put }
+
+pub wrote_none : (p : Page) → Wrote p [] p
+wrote_none p = record { same = refl; put = put_none p.text.now p.at p.reached }
+
+pub wrote_as : {p q : Page} {v w : List ℕ} → v ≡ w → Wrote p v q → Wrote p w q
+wrote_as {p} {q} e x = subst (λ (u : List ℕ). Wrote p u q) e x
+
+-- a number's digits: those of its tenth, if that is not 0, and the last one
+pub number_one : {p q : Page} (n : ℕ) → n < 10 → Wrote p ((48 + n % 10) ∷ []) q → Wrote p (decimal n) q
+number_one n h x =
+    let e : n % 10 ≡ n = omega arith in
+    wrote_as (rw (decimal_one n h, e)) x
+
+pub number_more : {p q r : Page} (n : ℕ) → 10 ≤ n → Wrote p (decimal (n / 10)) q → Wrote q ((48 + n % 10) ∷ []) r → Wrote p (decimal n) r
+number_more n h x y = wrote_as (sym (decimal_more n h)) (wrote_then x y)
+
+pub number_two : {p q r : Page} (n : ℕ) → 10 ≤ n → n < 100 → Wrote p ((48 + n / 10) ∷ []) q → Wrote q ((48 + n % 10) ∷ []) r → Wrote p (decimal n) r
+number_two n h l x y = number_more n h (wrote_as (sym (decimal_one (n / 10) (omega arith))) x) y
 
 -- ---- how long texts are
 -- ten to the power of k + 1

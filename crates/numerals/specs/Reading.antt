@@ -6,13 +6,7 @@
 --   digits_of s limit     the number that the whole of s writes, if it is at most limit
 --   number_of s           the same with limit 255: every number of a run file but a sample
 --   sample_of s           the sample that the whole of s writes
-use Rattle.std.specs.Prelude.{Bool, true, false, cond, List, [], ◌∷◌, ℕ, zero, suc, ◌+◌, ◌-◌, ◌*◌, leb, eqb, pos, negsuc}
-use Rattle.numerals.specs.declared.Digits.{Digits}
-use Rattle.numerals.specs.declared.Digits.TheVariants as D
-use Rattle.numerals.specs.declared.Number.{Number}
-use Rattle.numerals.specs.declared.Number.TheVariants as N
-use Rattle.numerals.specs.declared.Sample.{Sample}
-use Rattle.numerals.specs.declared.Sample.TheVariants as S
+use Rattle.std.specs.Prelude.{Bool, true, false, cond, List, [], ◌∷◌, ℕ, zero, suc, ◌+◌, ◌-◌, ◌*◌, leb, eqb, ℤ, pos, negsuc, None, Option, Some}
 
 abbrev pub is_digit : ℕ → Bool
 is_digit c = cond (leb 48 c) (leb c 57) false
@@ -30,30 +24,26 @@ plain [] = false
 plain (c ∷ []) = is_digit c
 plain (c ∷ d ∷ s) = cond (eqb c 48) false (all_digits (c ∷ d ∷ s))
 
-abbrev pub digits_of : List ℕ → ℕ → Digits
-digits_of s limit = cond (plain s) (cond (leb (value 0 s) limit) (D.Value (value 0 s)) D.Bad) D.Bad
+abbrev pub digits_of : List ℕ → ℕ → Option ℕ
+digits_of s limit = cond (plain s) (cond (leb (value 0 s) limit) (Some (value 0 s)) None) None
 
-abbrev pub number_from : Digits → Number
-number_from (D.Value v) = N.Is v
-number_from D.Bad = N.Bad
-
-unfoldable pub number_of : List ℕ → Number
-number_of s = number_from (digits_of s 255)
+unfoldable pub number_of : List ℕ → Option ℕ
+number_of s = digits_of s 255
 
 -- digits with no minus before them
-abbrev pub plus_of : Digits → Sample
-plus_of (D.Value v) = S.Is (pos v)
-plus_of D.Bad = S.Bad
+abbrev pub plus_of : Option ℕ → Option ℤ
+plus_of (Some v) = Some (pos v)
+plus_of None = None
 
 -- digits after a minus: -0 is no sample
-abbrev pub negated : ℕ → Sample
-negated zero = S.Bad
-negated (suc k) = S.Is (negsuc k)
+abbrev pub negated : ℕ → Option ℤ
+negated zero = None
+negated (suc k) = Some (negsuc k)
 
-abbrev pub minus_of : Digits → Sample
-minus_of (D.Value v) = negated v
-minus_of D.Bad = S.Bad
+abbrev pub minus_of : Option ℕ → Option ℤ
+minus_of (Some v) = negated v
+minus_of None = None
 
-unfoldable pub sample_of : List ℕ → Sample
-sample_of [] = S.Bad
+unfoldable pub sample_of : List ℕ → Option ℤ
+sample_of [] = None
 sample_of (c ∷ s) = cond (eqb c 45) (minus_of (digits_of s 2147483648)) (plus_of (digits_of (c ∷ s) 2147483647))

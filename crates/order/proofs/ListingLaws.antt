@@ -8,20 +8,19 @@
 --   listed_in_room                its answer and the order afterwards, where the order has room
 --   listed_length                 each find gives two entries, each other put one
 --   list_order_only               two answers, with the orders afterwards, that meet the contract of `list_order` are the same
+use Rattle.std.specs.Prelude.{Option, Some}
 use mathlib.Core.Path.{◌≡◌, refl, sym, ap, ◌∙◌}
-use mathlib.Core.Logic.{inl, inr}
 use mathlib.Core.List.{List, [], ◌∷◌, ◌++◌, map}
-use mathlib.Core.Option.{none}
-use Prim.Native.Nat.{ℕ, ◌+◌, ◌*◌, ◌/◌, ◌%◌, ◌≤◌}
+use Prim.Native.Nat.{ℕ, zero, suc, ◌+◌, ◌≤◌}
 use native.Mathlib.Omega.{arith}
-use borrow.Author.Tests.{eq-eqb, ne_eqb, le-leb}
+use borrow.Author.Tests.{le-leb}
 use lib.ListN.{length, length-append, length-map}
 use lib.Seq.{sets}
-use Rattle.history.specs.History.{Event, call, ret, Called, Precedes, code_of}
+use Rattle.history.specs.History.{Event, Precedes, code_of}
 use Rattle.order.specs.Order.{found_puts, listed_order}
 use Rattle.order.specs.Listing.{bare, pairs, listing, listing_answer, listing_after}
-use Rattle.order.specs.declared.Listed.{Listed}
-use Rattle.order.specs.declared.Listed.TheVariants.{Done}
+use Rattle.history.proofs.CodeLaws.{code_at, precedes_at, at_precedes}
+use Rattle.order.proofs.PrecedesLaws.{code_bare}
 use Rattle.order.proofs.FitLaws.{fits_same, answer_done}
 use Rattle.order.proofs.MergeLaws.{merge_length, merge_alike}
 
@@ -31,59 +30,23 @@ takes_of finds = map (λ (f : ℕ × ℕ). f.0) finds
 abbrev pub puts_of : List (ℕ × ℕ) → List ℕ
 puts_of finds = map (λ (f : ℕ × ℕ). f.1) finds
 
--- an even code is a call's, an odd one a return's
-pub bare_call : (c o : ℕ) → c ≡ 2 * o → bare c ≡ call o
-bare_call c o e =
-    let r : c % 2 ≡ 0 = omega arith in
-    let d : c / 2 ≡ o = omega arith in
-    simp (eq-eqb (c % 2) 0 r, d)
-
-pub bare_ret : (c o : ℕ) → c ≡ 2 * o + 1 → bare c ≡ ret o none
-bare_ret c o e =
-    let r : c % 2 ≡ 0 → ⊥ = λ z. omega arith in
-    let d : c / 2 ≡ o = omega arith in
-    simp (ne_eqb (c % 2) 0 r, d)
-
--- an event without its sample
-abbrev strip : Event → Event
-strip (call o) = call o
-strip (ret o a) = ret o none
-
-codes_strip : (h : List Event) → map bare (map code_of h) ≡ map strip h
-codes_strip [] = refl
-codes_strip (call o ∷ h) = λ i. bare_call (2 * o) o refl i ∷ codes_strip h i
-codes_strip (ret o a ∷ h) = λ i. bare_ret (2 * o + 1) o refl i ∷ codes_strip h i
-
-called_to : (h : List Event) (o : ℕ) → Called h o → Called (map strip h) o
-called_to [] o c = elim c [ ]
-called_to (call p ∷ h) o (inl e) = inl e
-called_to (call p ∷ h) o (inr c) = inr (called_to h o c)
-called_to (ret p a ∷ h) o c = called_to h o c
-
-called_from : (h : List Event) (o : ℕ) → Called (map strip h) o → Called h o
-called_from [] o c = elim c [ ]
-called_from (call p ∷ h) o (inl e) = inl e
-called_from (call p ∷ h) o (inr c) = inr (called_from h o c)
-called_from (ret p a ∷ h) o c = called_from h o c
-
-strip_to : (h : List Event) (a b : ℕ) → Precedes h a b → Precedes (map strip h) a b
-strip_to [] a b p = elim p [ ]
-strip_to (call c ∷ h) a b p = strip_to h a b p
-strip_to (ret c v ∷ h) a b (inl p) = inl (p.0, called_to h b p.1)
-strip_to (ret c v ∷ h) a b (inr p) = inr (strip_to h a b p)
-
-strip_from : (h : List Event) (a b : ℕ) → Precedes (map strip h) a b → Precedes h a b
-strip_from [] a b p = elim p [ ]
-strip_from (call c ∷ h) a b p = strip_from h a b p
-strip_from (ret c v ∷ h) a b (inl p) = inl (p.0, called_from h b p.1)
-strip_from (ret c v ∷ h) a b (inr p) = inr (strip_from h a b p)
-
 -- 'precedes' looks at no sample, and a code is its event but for the sample
+code_same : (h : List Event) (j : ℕ) → code_at (map bare (map code_of h)) j ≡ code_at h j
+code_same [] j = refl
+code_same (e ∷ h) zero = code_bare (code_of e)
+code_same (e ∷ h) (suc j) = code_same h j
+
 pub precedes_to : (h : List Event) (a b : ℕ) → Precedes h a b → Precedes (map bare (map code_of h)) a b
-precedes_to h a b p = rw (codes_strip h) (strip_to h a b p)
+precedes_to h a b p =
+    let w = precedes_at h a b p in
+    at_precedes (map bare (map code_of h)) a b w.early w.late w.in_turn (omega (arith, length-map h code_of, length-map (map code_of h) bare, w.inside))
+    (code_same h w.early ∙ w.returns) (code_same h w.late ∙ w.calls)
 
 pub precedes_from : (h : List Event) (a b : ℕ) → Precedes (map bare (map code_of h)) a b → Precedes h a b
-precedes_from h a b p = strip_from h a b (rw (codes_strip h) at p)
+precedes_from h a b p =
+    let w = precedes_at (map bare (map code_of h)) a b p in
+    at_precedes h a b w.early w.late w.in_turn (omega (arith, length-map h code_of, length-map (map code_of h) bare, w.inside))
+    (sym (code_same h w.early) ∙ w.returns) (sym (code_same h w.late) ∙ w.calls)
 
 -- the merge asks of a history only what precedes what
 pub listed_codes : (h : List Event) (finds : List (ℕ × ℕ)) (others : List ℕ) → listed_order h finds others ≡ listed_order (map bare (map code_of h)) finds others
@@ -125,7 +88,7 @@ listed_length h finds others = omega (arith, merge_length h (found_puts finds ++
 
 -- the columns are equally long, so the rows fit
 pub listed_in_room : (h : List Event) (finds : List (ℕ × ℕ)) (others order : List ℕ) → length finds + length finds + length others ≤ length order
-    → (Done (length (listed_order h finds others)) ≡ listing_answer (map code_of h) (takes_of finds) (puts_of finds) others (length order))
+    → (Some (length (listed_order h finds others)) ≡ listing_answer (map code_of h) (takes_of finds) (puts_of finds) others (length order))
     × (sets order 0 (listed_order h finds others) ≡ listing_after (map code_of h) (takes_of finds) (puts_of finds) others order)
 listed_in_room h finds others order room =
     let takes = takes_of finds in
@@ -138,7 +101,7 @@ listed_in_room h finds others order room =
     (ap length e) (ap (sets order 0) e)
 
 -- both are given by an equation
-pub list_order_only : (codes takes puts others order : List ℕ) (r s : Listed) (after later : List ℕ)
+pub list_order_only : (codes takes puts others order : List ℕ) (r s : Option ℕ) (after later : List ℕ)
     → r ≡ listing_answer codes takes puts others (length order) → after ≡ listing_after codes takes puts others order
     → s ≡ listing_answer codes takes puts others (length order) → later ≡ listing_after codes takes puts others order → (r ≡ s) × (after ≡ later)
 list_order_only codes takes puts others order r s after later a b c d = (a ∙ sym c, b ∙ sym d)

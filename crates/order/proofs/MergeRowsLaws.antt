@@ -7,7 +7,9 @@ use mathlib.Core.List.{List, [], ◌∷◌, ◌++◌, map, append_assoc, append-
 use Prim.Native.Nat.{ℕ}
 use lib.IntN.{ℤ}
 use Rattle.limits.specs.Lists.{All, Mem, Pw}
-use Rattle.limits.specs.Operations.{Kind, putting, taking, Table}
+use Rattle.limits.specs.declared.Kind.{Kind}
+use Rattle.limits.specs.declared.Kind.TheVariants.{Put as putting, Take as taking}
+use Rattle.limits.specs.Operations.{Table}
 use Rattle.history.specs.History.{Event, Precedes}
 use Rattle.history.proofs.ListLaws.{all_imp, all_mem, all_of_mem, all_left, all_right, pw_imp, pw_imp₂}
 use Rattle.history.proofs.PrecedenceLists.{map_append}

@@ -6,13 +6,11 @@
 --   rows_fit        each take has its put, and the lent order has room for all of them
 --   listing_answer  how many entries the order got, or that the rows do not fit
 --   listing_after   the lent order afterwards: the listing first, every later entry as it was; wholly as it was if the rows do not fit
-use Rattle.std.specs.Prelude.{Bool, false, cond, List, [], ◌∷◌, map, ℕ, ◌+◌, ◌/◌, ◌%◌, eqb, leb, length}
+use Rattle.std.specs.Prelude.{Bool, false, cond, List, [], ◌∷◌, map, ℕ, ◌+◌, ◌/◌, ◌%◌, eqb, leb, length, None, Option, Some}
 use Rattle.std.proofs.Math.Option.{none}
 use Rattle.std.proofs.lemmas.List.Edits.{sets}
 use Rattle.history.specs.History.{Event, call, ret}
 use Rattle.order.specs.Order.{listed_order}
-use Rattle.order.specs.declared.Listed.{Listed}
-use Rattle.order.specs.declared.Listed.TheVariants.{Done, Unfit}
 
 abbrev pub bare : ℕ → Event
 bare c = cond (eqb (c % 2) 0) (call (c / 2)) (ret (c / 2) none)
@@ -29,9 +27,9 @@ listing codes takes puts others = listed_order (map bare codes) (pairs takes put
 abbrev pub rows_fit : ℕ → ℕ → ℕ → ℕ → Bool
 rows_fit takes puts others room = cond (eqb takes puts) (leb (puts + others + takes) room) false
 
-unfoldable pub listing_answer : List ℕ → List ℕ → List ℕ → List ℕ → ℕ → Listed
+unfoldable pub listing_answer : List ℕ → List ℕ → List ℕ → List ℕ → ℕ → Option ℕ
 listing_answer codes takes puts others room =
-    cond (rows_fit (length takes) (length puts) (length others) room) (Done (length (listing codes takes puts others))) Unfit
+    cond (rows_fit (length takes) (length puts) (length others) room) (Some (length (listing codes takes puts others))) None
 
 unfoldable pub listing_after : List ℕ → List ℕ → List ℕ → List ℕ → List ℕ → List ℕ
 listing_after codes takes puts others order =

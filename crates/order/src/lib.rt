@@ -1,165 +1,101 @@
 // The listed order: two rows and their merge. It knows a history and two rows, and nothing of slots and phases.
 #![tactic(auto)]
 
-ghost use Rattle.std.specs.Prelude.{◌≡◌, map, ◌+◌, ◌-◌, ◌≤◌, ◌<◌, length};
-ghost use Rattle.std.proofs.lemmas.List.Edits.{sets};
+ghost use Rattle.std.specs.Prelude.{◌≡◌, map, ◌≤◌, length, drop};
 ghost use Rattle.order.specs.Order.{merge};
 ghost use Rattle.order.specs.Listing.{bare, pairs, rows_fit, listing_answer, listing_after};
-ghost use Rattle.order.specs.Weaving.{part, Later, Ends, Noted, Needs};
+ghost use Rattle.order.specs.Weaving.{Ends, Needs};
 
-// How many entries the order got, or that the rows do not belong together or do not fit.
-#[derive(Clone, Copy)]
-pub enum Listed {
-    Done(usize),
-    Unfit,
+use history::Event;
+
+// What is to be listed: takes[i] found puts[i], and nobody found the others.
+#[derive(Clone, Copy, Debug)]
+pub struct Rows<'a> {
+    pub takes: &'a [u8],
+    pub puts: &'a [u8],
+    pub others: &'a [u8],
 }
 
-// Whether each take has its put, and the room is enough for all puts and takes.
-fn rows_fit(takes: usize, puts: usize, others: usize, room: usize) -> bool
-    ensures { result ≡ rows_fit takes puts others room }
-{
-    if takes != puts {
-        return false;
-    }
-    if room < others {
-        return false;
-    }
-    takes <= (room - others) / 2
-}
-
-// Writes the entries of w from at on.
-fn put_row(out: &mut [u8], at: usize, w: &[u8])
-    requires { at + length w.now ≤ length out.old }
-    ensures { out.new ≡ sets out.old at w.now }
-{
-    let n = w.len();
-    let mut i: usize = 0;
-    while i < n {
-        out[at + i] = w[i];
-        i += 1;
+impl Rows<'_> {
+    // Whether each take has its put, and the room is enough for all puts and takes.
+    fn fit(&self, room: usize) -> bool
+        ensures { result ≡ rows_fit (length self.now.takes.now) (length self.now.puts.now) (length self.now.others.now) room }
+    {
+        let takes = self.takes.len();
+        let others = self.others.len();
+        takes == self.puts.len() && others <= room && takes <= (room - others) / 2
     }
 }
 
-// Copies the entries from k up to e to an earlier place; gives the place after them.
-fn shift(out: &mut [u8], to: usize, k: usize, e: usize) -> usize
-    requires { (to ≤ k) × ((k ≤ e) × (e ≤ length out.old)) }
-    ensures { (result ≡ to + (e - k)) × (out.new ≡ sets out.old to (part k e out.old)) }
+// For each operation, the place after its last entry in the row; 0 if it has none.
+fn note_ends(row: &[u8]) -> [usize; 256]
+    ensures { Ends row.now result (length row.now) }
 {
-    let n = e - k;
-    let mut i: usize = 0;
-    while i < n {
-        out[to + i] = out[k + i];
-        i += 1;
+    let mut ends = [0; 256];
+    for (s, o) in row.iter().enumerate() {
+        ends[*o as usize] = s + 1;
     }
-    to + n
+    ends
 }
 
-// The later of two places.
-fn later(a: usize, b: usize) -> usize
-    ensures { Later a b result }
+// For each operation, the latest end in the row among the operations that precede it. No row names an operation from 256 on.
+fn note_needs(codes: &[u16], ends: &[usize; 256]) -> [usize; 256]
+    ensures { Needs codes.now ends.now result (length codes.now) }
 {
-    if a < b {
-        return b;
-    }
-    a
-}
-
-// Notes for each operation the place after its last entry in the row, which stands from k up to e.
-fn note_ends(row: &[u8], k: usize, e: usize, ends: &mut [usize; 256])
-    requires { (k ≤ e) × ((e ≤ length row.now) × Ends row.now k ends.old k) }
-    ensures { Ends row.now k ends.new e }
-{
-    let mut s = k;
-    while s < e {
-        ends[row[s] as usize] = s + 1;
-        s += 1;
-    }
-}
-
-// Notes the event at i: a return may raise the latest end; a call needs the latest end so far. No row names an operation from 256 on.
-fn note_event(
-    codes: &[u16],
-    i: usize,
-    reach: usize,
-    ends: &[usize; 256],
-    needs: &mut [usize; 256],
-) -> usize
-    requires { (i < length codes.now) × Noted codes.now ends.now needs.old reach i }
-    ensures { Noted codes.now ends.now needs.new result (i + 1) }
-{
-    let c = codes[i];
-    let o = (c / 2) as usize;
-    if 256 <= o {
-        return reach;
-    }
-    if c % 2 == 0 {
-        needs[o] = reach;
-        return reach;
-    }
-    later(reach, ends[o])
-}
-
-// Notes for each operation the latest end in the row among the operations that precede it.
-fn note_needs(codes: &[u16], ends: &[usize; 256], needs: &mut [usize; 256])
-    requires { Noted codes.now ends.now needs.old 0 0 }
-    ensures { Needs codes.now ends.now needs.new (length codes.now) }
-{
-    let n = codes.len();
+    let mut needs = [0; 256];
     let mut reach: usize = 0;
-    let mut i: usize = 0;
-    while i < n {
-        reach = note_event(codes, i, reach, ends, needs);
-        i += 1;
+    for code in codes {
+        match history::event_of(*code) {
+            Event::Call(o) => {
+                if o < 256 {
+                    needs[o] = reach;
+                }
+            }
+            Event::Return(o) => {
+                if o < 256 {
+                    reach = reach.max(ends[o]);
+                }
+            }
+        }
     }
+    needs
 }
 
-// Merges in place: the row of puts stands in the order from takes.len() up to e; the merged rows stand before e afterwards.
-// The row's rest begins at k and the next entry goes to out, which stays before k as long as a take is left.
+// Merges in place: the row of puts stands in the order behind the room for the takes, and the merged rows stand there afterwards.
+// The row's first k puts are listed and the next entry goes to out, which stays before the row's rest as long as a take is left.
 // Each take stands behind the later of the put it found and the last put that precedes it.
-fn merge_rows(codes: &[u16], takes: &[u8], puts: &[u8], order: &mut [u8], e: usize)
-    requires { (length puts.now ≡ length takes.now) × ((length takes.now ≤ e) × (e ≤ length order.old)) }
-    ensures { order.new ≡ sets order.old 0 (merge (map bare codes.now) (part (length takes.now) e order.old) (pairs takes.now puts.now)) }
+fn merge_rows(codes: &[u16], rows: &Rows, order: &mut [u8])
+    requires together { length rows.now.puts.now ≡ length rows.now.takes.now }
+    requires room { length rows.now.takes.now ≤ length order.old }
+    ensures { order.new ≡ merge (map bare codes.now) (drop (length rows.now.takes.now) order.old) (pairs rows.now.takes.now rows.now.puts.now) }
 {
-    let m = takes.len();
-    let mut ends = [0usize; 256];
-    note_ends(order, m, e, &mut ends);
-    let mut needs = [0usize; 256];
-    note_needs(codes, &ends, &mut needs);
-    let mut k = m;
-    let mut i: usize = 0;
-    let mut out: usize = 0;
-    while i < m {
-        let t = takes[i];
-        let p = puts[i];
-        let r = later(k, later(ends[p as usize], needs[t as usize]));
-        out = shift(order, out, k, r);
-        order[out] = t;
+    let m = rows.takes.len();
+    let ends = note_ends(&order[m..]);
+    let needs = note_needs(codes, &ends);
+    let mut k: usize = 0;
+    let mut out = 0;
+    for (t, p) in rows.takes.iter().zip(rows.puts) {
+        let r = k.max(ends[*p as usize]).max(needs[*t as usize]);
+        order.copy_within(m + k..m + r, out);
+        out += r - k;
+        order[out] = *t;
         out += 1;
         k = r;
-        i += 1;
     }
 }
 
-// Lists the order of a history, given by its codes: takes[i] found puts[i], and nobody found the other stored puts.
-pub fn list_order(
-    codes: &[u16],
-    takes: &[u8],
-    puts: &[u8],
-    others: &[u8],
-    order: &mut [u8],
-) -> Listed
-    ensures value { result ≡ listing_answer codes.now takes.now puts.now others.now (length order.old) }
-    ensures order_after { order.new ≡ listing_after codes.now takes.now puts.now others.now order.old }
+// Lists the order of a history, given by its codes. Gives how many entries the order got; none where the rows do not belong together or do not fit.
+pub fn list_order(codes: &[u16], rows: &Rows, order: &mut [u8]) -> Option<usize>
+    ensures value { result ≡ listing_answer codes.now rows.now.takes.now rows.now.puts.now rows.now.others.now (length order.old) }
+    ensures order_after { order.new ≡ listing_after codes.now rows.now.takes.now rows.now.puts.now rows.now.others.now order.old }
 {
-    let m = takes.len();
-    let p = puts.len();
-    let o = others.len();
-    if !rows_fit(m, p, o, order.len()) {
-        return Listed::Unfit;
+    if !rows.fit(order.len()) {
+        return None;
     }
-    put_row(order, m, puts);
-    put_row(order, m + p, others);
-    let e = m + p + o;
-    merge_rows(codes, takes, puts, order, e);
-    Listed::Done(e)
+    let found = rows.takes.len() + rows.puts.len();
+    let all = found + rows.others.len();
+    order[rows.takes.len()..found].copy_from_slice(rows.puts);
+    order[found..all].copy_from_slice(rows.others);
+    merge_rows(codes, rows, &mut order[..all]);
+    Some(all)
 }

@@ -1,5 +1,8 @@
 -- A refused call writes nothing: where an exported function's answer has a refusal other than 0, each lent list is as it was. And each refusal is
 -- told by the document's number, never by 0, since these numbers begin with 1; so a caller who tests `refusal` misses none. Assumes nothing.
+use Rattle.std.specs.Prelude.{Err, Ok, Result}
+use Rattle.limits.specs.Refusals.{Fit}
+use Rattle.runfile.specs.declared.Sizes.{Sizes}
 use mathlib.Core.Path.{◌≡◌, refl, ap, ◌∙◌}
 use mathlib.Core.Logic.{◌≢◌}
 use mathlib.Core.List.{List}
@@ -9,13 +12,9 @@ use lib.IntN.{ℤ}
 use lib.ListN.{length}
 use Rattle.limits.specs.declared.Refusal.{Refusal}
 use Rattle.limits.specs.declared.Refusal.TheVariants.{Threads, Slots, Lengths, Operations, Operation, Puts, Schedule, Entry, Room, Event, Line, Text}
-use Rattle.limits.specs.declared.Fit.{Fit}
-use Rattle.limits.specs.declared.Fit.TheVariants.{Pass, Refused}
 use Rattle.limits.specs.Operations.{Input}
 use Rattle.limits.specs.Refusals.{refusal_told, by_fit}
 use Rattle.run.specs.Run.{Lists, run_fit, summary_of}
-use Rattle.runfile.specs.declared.Read.{Read}
-use Rattle.runfile.specs.declared.Read.TheVariants as Rd
 use Rattle.runfile.specs.RunText.{run_text}
 use Rattle.runfile.specs.Reading.{read_of}
 use Rattle.runfile.specs.Answers.{input_in, read_fit, write_fit}
@@ -27,6 +26,7 @@ use Rattle.outside.specs.Outside.{run_numbers, nothing, RunTells}
 use Rattle.outside.specs.Texts.{read_numbers, ReadTells, text_numbers, WriteTells, ListTells}
 use Rattle.limits.proofs.FitLaws.{in_numbers}
 use Rattle.outside.proofs.OutsideLaws.{room}
+use Rattle.runfile.specs.Reading.{sizes}
 
 -- the document's numbers begin with 1
 pub number_positive : (x : Refusal) → 0 < (refusal_told x).0
@@ -53,12 +53,12 @@ abbrev number : Fit → ℕ
 number f = by_fit f 0 (λ x. (refusal_told x).0)
 
 -- another number than 0 tells that the fit refuses
-refuses : (f : Fit) (n : ℕ) → n ≡ number f → n ≢ 0 → (x : Refusal) × (f ≡ Refused x)
-refuses Pass n e nz = absurd (nz e)
-refuses (Refused x) n e nz = (x, refl)
+refuses : (f : Fit) (n : ℕ) → n ≡ number f → n ≢ 0 → (x : Refusal) × (f ≡ Err x)
+refuses (Ok tt) n e nz = absurd (nz e)
+refuses (Err x) n e nz = (x, refl)
 
 -- and a fit that refuses is told by its refusal's number
-told : (f : Fit) (n : ℕ) → n ≡ number f → (x : Refusal) → f ≡ Refused x → Told n x
+told : (f : Fit) (n : ℕ) → n ≡ number f → (x : Refusal) → f ≡ Err x → Told n x
 told f n e x refused =
     let k : n ≡ (refusal_told x).0 = rw refused at e in
     (k, rw k (number_positive x))
@@ -77,7 +77,7 @@ module _ (i : Input) (l : Lists) (ps : List ℕ) (ns : List ℤ) (es : List ℕ)
       let e = (refuses ran r.refusal run_number nz).1 in
       (rw e at tells.lists, rw e at tells.phases, rw e at tells.numbers, rw e at tells.ends)
 
-  pub run_refused_told : (x : Refusal) → ran ≡ Refused x → Told r.refusal x
+  pub run_refused_told : (x : Refusal) → ran ≡ Err x → Told r.refusal x
   run_refused_told = told ran r.refusal run_number
 
 -- ---- the reader
@@ -91,7 +91,7 @@ module _ (text thread kind : List ℕ) (sample : List ℤ) (schedule : List ℕ)
   read_number =
       let i = input_in (read_of text) in
       ap (λ (a : ReadAnswer). a.refusal) (tells.answer ∙ ap read_numbers tells.says.answer)
-      ∙ in_numbers (λ (q : Read). (read_numbers q).refusal) read (Rd.Run i.threads i.slots (length i.thread) (length i.schedule)) Rd.Refused
+      ∙ in_numbers (λ (q : Result Sizes Refusal). (read_numbers q).refusal) read (Ok (sizes i.threads i.slots (length i.thread) (length i.schedule))) Err
 
   pub read_refused_leaves : r.refusal ≢ 0 → (thread' ≡ thread) × (kind' ≡ kind) × (sample' ≡ sample) × (schedule' ≡ schedule)
   read_refused_leaves nz =
@@ -99,7 +99,7 @@ module _ (text thread kind : List ℕ) (sample : List ℤ) (schedule : List ℕ)
       let says = tells.says in
       (rw e at says.threads, rw e at says.kinds, rw e at says.samples, rw e at says.steps)
 
-  pub read_refused_told : (x : Refusal) → read ≡ Refused x → Told r.refusal x
+  pub read_refused_told : (x : Refusal) → read ≡ Err x → Told r.refusal x
   read_refused_told = told read r.refusal read_number
 
 -- ---- the writer and the listing
@@ -116,7 +116,7 @@ module _ (i : Input) (text : List ℕ) (r : TextAnswer) (text' : List ℕ) where
     pub write_refused_leaves : r.refusal ≢ 0 → text' ≡ text
     write_refused_leaves nz = rw (refuses (write_fit i (length text)) r.refusal write_number nz).1 at tells.bytes
 
-    pub write_refused_told : (x : Refusal) → write_fit i (length text) ≡ Refused x → Told r.refusal x
+    pub write_refused_told : (x : Refusal) → write_fit i (length text) ≡ Err x → Told r.refusal x
     write_refused_told = told (write_fit i (length text)) r.refusal write_number
 
   module _ (tells : ListTells i text r text') where
@@ -126,5 +126,5 @@ module _ (i : Input) (text : List ℕ) (r : TextAnswer) (text' : List ℕ) where
     pub list_refused_leaves : r.refusal ≢ 0 → text' ≡ text
     list_refused_leaves nz = rw (refuses (listing_fit i (length text)) r.refusal list_number nz).1 at tells.bytes
 
-    pub list_refused_told : (x : Refusal) → listing_fit i (length text) ≡ Refused x → Told r.refusal x
+    pub list_refused_told : (x : Refusal) → listing_fit i (length text) ≡ Err x → Told r.refusal x
     list_refused_told = told (listing_fit i (length text)) r.refusal list_number

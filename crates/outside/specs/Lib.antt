@@ -1,3 +1,4 @@
 pub mod Outside
 pub mod Texts
 pub mod RecordTwin
+pub mod Told

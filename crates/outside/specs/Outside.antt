@@ -6,8 +6,10 @@
 --   RunTells      all that a run says to a caller from outside: from the input i, the lent lists l and three more for the thread records (phase codes,
 --                 phase numbers, ends) to the lists afterwards and the answer; there is room for as many records as the shortest of the three has entries
 --   judge_numbers  the judge's answer: 0, 0 and the verdict's number; or the refusal's number, its detail, and 0
-use Rattle.std.specs.Prelude.{◌≡◌, cond, List, map, ℕ, leb, ℤ, length}
-use Rattle.limits.specs.declared.Fit.{Fit}
+use Rattle.limits.specs.Refusals.{Fit}
+use Rattle.limits.specs.declared.Refusal.{Refusal}
+use Rattle.linear.specs.declared.Verdict.{Verdict}
+use Rattle.std.specs.Prelude.{◌≡◌, cond, List, map, ℕ, leb, ℤ, length, Err, Ok, Result}
 use Rattle.limits.specs.Operations.{Input}
 use Rattle.limits.specs.Refusals.{refusal_told, by_fit, lent_after}
 use Rattle.machine.specs.Bench.{Worker}
@@ -15,8 +17,6 @@ use Rattle.machine.specs.Shown.{phase_told}
 use Rattle.run.specs.declared.Summary.{Summary}
 use Rattle.run.specs.Run.{Lists, run_fit, bench_after, summary_of, lists_after}
 use Rattle.linear.specs.Numbers.{verdict_number}
-use Rattle.judge.specs.declared.Judged.{Judged}
-use Rattle.judge.specs.declared.Judged.TheVariants.{Says, Refused}
 use Rattle.outside.specs.declared.RunAnswer.{RunAnswer}
 use Rattle.outside.specs.declared.JudgeAnswer.{JudgeAnswer}
 
@@ -53,6 +53,6 @@ module _ (i : Input) (l : Lists) (ps : List ℕ) (ns : List ℤ) (es : List ℕ)
     pub numbers : ns' ≡ lent_after fit (map (λ (w : Worker). (phase_told w.phase).1) (bench_after i).workers) ns
     pub ends : es' ≡ lent_after fit (map (λ (w : Worker). (phase_told w.phase).2) (bench_after i).workers) es
 
-abbrev pub judge_numbers : Judged → JudgeAnswer
-judge_numbers (Says v) = record { refusal = 0; detail = 0; verdict = verdict_number v }
-judge_numbers (Refused r) = record { refusal = (refusal_told r).0; detail = (refusal_told r).1; verdict = 0 }
+abbrev pub judge_numbers : Result Verdict Refusal → JudgeAnswer
+judge_numbers (Ok v) = record { refusal = 0; detail = 0; verdict = verdict_number v }
+judge_numbers (Err r) = record { refusal = (refusal_told r).0; detail = (refusal_told r).1; verdict = 0 }

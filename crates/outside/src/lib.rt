@@ -4,21 +4,23 @@
 
 ghost use Rattle.std.specs.Prelude.{◌≡◌};
 ghost use Rattle.judge.specs.Judge.{judged};
+ghost use Rattle.limits.specs.Inputs.{input_in};
 ghost use Rattle.limits.specs.Operations.{input_of};
-ghost use Rattle.limits.specs.Refusals.{refusal_told};
 ghost use Rattle.run.specs.Run.{lists_of};
-ghost use Rattle.outside.specs.Outside.{lower, nothing, run_numbers, RunTells, judge_numbers};
+ghost use Rattle.outside.specs.Outside.{RunTells, judge_numbers};
+ghost use Rattle.outside.specs.Told.{outcome_numbers};
 
 mod records;
 pub mod texts;
 
-use judge::Judged;
-use limits::Refusal;
-use run::{Outcome, Summary};
+use judge::History;
+use limits::{Input, Refusal, Table};
+use linear::Verdict;
+use run::{Lent, Summary};
 
 // A run's answer. `refusal` is 0 for an accepted run; otherwise it is the document's number, `detail` its detail, and all else 0.
 #[repr(C)]
-#[derive(Clone, Copy)]
+#[derive(Clone, Copy, Debug, Default)]
 pub struct RunAnswer {
     pub refusal: usize,
     pub detail: usize,
@@ -35,70 +37,77 @@ pub struct RunAnswer {
 
 // The judge's answer. `refusal` is 0 where there is a verdict; otherwise it is the document's number, `detail` its detail, and `verdict` 0.
 #[repr(C)]
-#[derive(Clone, Copy)]
+#[derive(Clone, Copy, Debug, Default)]
 pub struct JudgeAnswer {
     pub refusal: usize,
     pub detail: usize,
     pub verdict: usize,
 }
 
-// The lower of two numbers.
-fn shorter(a: usize, b: usize) -> usize
-    ensures { result ≡ lower a b }
-{
-    if a <= b { a } else { b }
-}
+impl From<Result<Summary, Refusal>> for RunAnswer {
+    ghost from_gives = { λ o a. a ≡ outcome_numbers o };
 
-// The lowest of three numbers.
-fn shortest(a: usize, b: usize, c: usize) -> usize
-    ensures { result ≡ lower (lower a b) c }
-{
-    let low = shorter(a, b);
-    shorter(low, c)
-}
-
-// A refusal's number, as wide as a detail.
-pub(crate) fn number(r: Refusal) -> usize
-    ensures { result ≡ (refusal_told r).0 }
-{
-    limits::number(r) as usize
-}
-
-// The answer of a refused run.
-fn refuse(r: Refusal) -> RunAnswer
-    ensures { result ≡ run_numbers (refusal_told r) nothing }
-{
-    RunAnswer {
-        refusal: number(r),
-        detail: limits::detail(r),
-        events: 0,
-        order: 0,
-        back: 0,
-        steps: 0,
-        idle: 0,
-        stores: 0,
-        swaps: 0,
-        finds: 0,
-        fruitless: 0,
+    fn from(outcome: Result<Summary, Refusal>) -> RunAnswer {
+        match outcome {
+            Ok(s) => RunAnswer {
+                events: s.events,
+                order: s.order,
+                back: s.back,
+                steps: s.steps,
+                idle: s.idle,
+                stores: s.stores,
+                swaps: s.swaps,
+                finds: s.finds,
+                fruitless: s.fruitless,
+                ..RunAnswer::default()
+            },
+            Err(r) => RunAnswer {
+                refusal: r.number().into(),
+                detail: r.detail(),
+                ..RunAnswer::default()
+            },
+        }
     }
 }
 
-// The answer of an accepted run.
-fn accept(s: Summary) -> RunAnswer
-    ensures { result ≡ run_numbers (0, 0) s }
+impl From<Result<Verdict, Refusal>> for JudgeAnswer {
+    ghost from_gives = { λ q a. a ≡ judge_numbers q };
+
+    fn from(judged: Result<Verdict, Refusal>) -> JudgeAnswer {
+        match judged {
+            Ok(v) => JudgeAnswer {
+                verdict: v.number().into(),
+                ..JudgeAnswer::default()
+            },
+            Err(r) => JudgeAnswer {
+                refusal: r.number().into(),
+                detail: r.detail(),
+                ..JudgeAnswer::default()
+            },
+        }
+    }
+}
+
+// A run's input, of numbers and lists that a caller lends.
+pub(crate) fn lent_input<'a>(
+    threads: usize,
+    slots: usize,
+    thread: &'a [u8],
+    kind: &'a [u8],
+    sample: &'a [i32],
+    schedule: &'a [u8],
+) -> Input<'a>
+    ensures { input_in result ≡ input_of threads slots thread.now kind.now sample.now schedule.now }
 {
-    RunAnswer {
-        refusal: 0,
-        detail: 0,
-        events: s.events,
-        order: s.order,
-        back: s.back,
-        steps: s.steps,
-        idle: s.idle,
-        stores: s.stores,
-        swaps: s.swaps,
-        finds: s.finds,
-        fruitless: s.fruitless,
+    Input {
+        threads,
+        slots,
+        table: Table {
+            thread,
+            kind,
+            sample,
+        },
+        schedule,
     }
 }
 
@@ -126,18 +135,21 @@ pub extern "C" fn pollenloom_run(
         (lists_of codes.new values.new order.new marks.new held.new)
         phases.new numbers.new ends.new result }
 {
-    let room = shortest(phases.len(), numbers.len(), ends.len());
-    let last = run::run_core(
-        threads, slots, thread, kind, sample, schedule, codes, values, order, marks, held, room,
-    );
-    let outcome = last.outcome;
-    let shown = last.records;
-    match outcome {
-        Outcome::Refused(r) => refuse(r),
-        Outcome::Ran(s) => {
-            records::show_records(shown, threads, phases, numbers, ends);
-            accept(s)
+    let input = lent_input(threads, slots, thread, kind, sample, schedule);
+    let mut lent = Lent {
+        codes,
+        values,
+        order,
+        marks,
+        held,
+    };
+    let room = phases.len().min(numbers.len()).min(ends.len());
+    match run::run_core(&input, &mut lent, room) {
+        Ok(ran) => {
+            records::show_records(&ran.records[..threads], phases, numbers, ends);
+            RunAnswer::from(Ok(ran.summary))
         }
+        Err(refusal) => RunAnswer::from(Err(refusal)),
     }
 }
 
@@ -154,17 +166,11 @@ pub extern "C" fn pollenloom_judge(
 ) -> JudgeAnswer
     ensures { result ≡ judge_numbers (judged threads thread.now kind.now sample.now codes.now samples.now order.now) }
 {
-    let answer = judge::judge(threads, thread, kind, sample, codes, samples, order);
-    match answer {
-        Judged::Says(v) => JudgeAnswer {
-            refusal: 0,
-            detail: 0,
-            verdict: linear::number(v) as usize,
-        },
-        Judged::Refused(r) => JudgeAnswer {
-            refusal: number(r),
-            detail: limits::detail(r),
-            verdict: 0,
-        },
-    }
+    let table = Table {
+        thread,
+        kind,
+        sample,
+    };
+    let history = History { codes, samples };
+    judge::judge(threads, &table, &history, order).into()
 }

@@ -1,49 +1,38 @@
 // Thread records as three lists of numbers: phase codes, phase numbers, ends.
-ghost use Rattle.std.specs.Prelude.{◌≡◌};
+ghost use Rattle.std.specs.Prelude.{◌≡◌, ◌≤◌, length};
 ghost use Rattle.machine.specs.Shown.{phase_told};
-ghost use Rattle.outside.specs.RecordTwin.{Rooms, Shows};
+ghost use Rattle.outside.specs.RecordTwin.{Shows};
 
 use machine::{Phase, ThreadRecord};
 
 // The document's code of a phase; its number, 0 where it has none; the end of its pass, 0 where it does not scan.
-#[derive(Clone, Copy)]
-struct Told(u8, i32, u8);
-
-// What a phase shows.
-fn tell(p: Phase) -> Told
+fn tell(p: Phase) -> (u8, i32, u8)
     ensures { (result.0, result.1, result.2) ≡ phase_told p }
 {
     match p {
-        Phase::Rest => Told(0, 0, 0),
-        Phase::CalledPut => Told(1, 0, 0),
-        Phase::Reserved(slot) => Told(2, slot as i32, 0),
-        Phase::Stored => Told(3, 0, 0),
-        Phase::CalledTake => Told(4, 0, 0),
-        Phase::Scanning(slot, end) => Told(5, slot as i32, end),
-        Phase::Holding(x) => Told(6, x, 0),
+        Phase::Rest => (0, 0, 0),
+        Phase::CalledPut => (1, 0, 0),
+        Phase::Reserved(slot) => (2, slot.into(), 0),
+        Phase::Stored => (3, 0, 0),
+        Phase::CalledTake => (4, 0, 0),
+        Phase::Scanning(slot, end) => (5, slot.into(), end),
+        Phase::Holding(x) => (6, x, 0),
     }
 }
 
-// What the first n records show, into the three lists.
+// What the records show, into the first entries of the three lists.
 pub(crate) fn show_records(
-    records: [ThreadRecord; 16],
-    n: usize,
+    records: &[ThreadRecord],
     phases: &mut [u8],
     numbers: &mut [i32],
     ends: &mut [u8],
 )
-    requires { Rooms n phases.old numbers.old ends.old }
-    ensures { Shows records phases.old numbers.old ends.old n phases.new numbers.new ends.new }
+    requires phase_room { length records.now ≤ length phases.old }
+    requires number_room { length records.now ≤ length numbers.old }
+    requires end_room { length records.now ≤ length ends.old }
+    ensures { Shows records.now phases.old numbers.old ends.old phases.new numbers.new ends.new }
 {
-    let mut i: usize = 0;
-    while i < n {
-        let record = records[i];
-        let p = record.phase;
-        let told = tell(p);
-        let number = told.1;
-        phases[i] = told.0;
-        numbers[i] = number;
-        ends[i] = told.2;
-        i += 1;
+    for (i, record) in records.iter().enumerate() {
+        (phases[i], numbers[i], ends[i]) = tell(record.phase);
     }
 }

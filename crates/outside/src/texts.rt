@@ -1,13 +1,16 @@
 // Run files and listings for callers in C and Rust: read into lent lists, and written into a lent text.
+ghost use Rattle.std.specs.Prelude.{◌≡◌};
 ghost use Rattle.limits.specs.Operations.{input_of};
-ghost use Rattle.outside.specs.Texts.{ReadTells, WriteTells, ListTells};
+ghost use Rattle.outside.specs.Texts.{read_numbers, ReadTells, WriteTells, ListTells};
+ghost use Rattle.outside.specs.Told.{text_told};
 
-use listing::Listing;
-use runfile::{Read, Written};
+use limits::Refusal;
+use reader::Lent;
+use runfile::Sizes;
 
 // A reading. `refusal` is 0 for a text that is accepted; otherwise it is the document's number, `detail` its detail, and all else 0.
 #[repr(C)]
-#[derive(Clone, Copy)]
+#[derive(Clone, Copy, Debug, Default)]
 pub struct ReadAnswer {
     pub refusal: usize,
     pub detail: usize,
@@ -19,11 +22,50 @@ pub struct ReadAnswer {
 
 // A text made. `refusal` is 0 for an input that is accepted; otherwise it is the document's number, `detail` its detail, and `bytes` 0.
 #[repr(C)]
-#[derive(Clone, Copy)]
+#[derive(Clone, Copy, Debug, Default)]
 pub struct TextAnswer {
     pub refusal: usize,
     pub detail: usize,
     pub bytes: usize,
+}
+
+impl From<Result<Sizes, Refusal>> for ReadAnswer {
+    ghost from_gives = { λ q a. a ≡ read_numbers q };
+
+    fn from(read: Result<Sizes, Refusal>) -> ReadAnswer {
+        match read {
+            Ok(sizes) => ReadAnswer {
+                threads: sizes.threads.into(),
+                slots: sizes.slots.into(),
+                operations: sizes.operations,
+                steps: sizes.steps,
+                ..ReadAnswer::default()
+            },
+            Err(r) => ReadAnswer {
+                refusal: r.number().into(),
+                detail: r.detail(),
+                ..ReadAnswer::default()
+            },
+        }
+    }
+}
+
+impl From<Result<usize, Refusal>> for TextAnswer {
+    ghost from_gives = { λ q a. a ≡ text_told q };
+
+    fn from(made: Result<usize, Refusal>) -> TextAnswer {
+        match made {
+            Ok(bytes) => TextAnswer {
+                bytes,
+                ..TextAnswer::default()
+            },
+            Err(r) => TextAnswer {
+                refusal: r.number().into(),
+                detail: r.detail(),
+                ..TextAnswer::default()
+            },
+        }
+    }
 }
 
 // Reads a run file into the lent lists.
@@ -37,25 +79,13 @@ pub extern "C" fn pollenloom_read(
 ) -> ReadAnswer
     ensures { ReadTells text.now thread.old kind.old sample.old schedule.old result thread.new kind.new sample.new schedule.new }
 {
-    let read = reader::read_run(text, thread, kind, sample, schedule);
-    match read {
-        Read::Run(threads, slots, operations, steps) => ReadAnswer {
-            refusal: 0,
-            detail: 0,
-            threads: threads as usize,
-            slots: slots as usize,
-            operations: operations,
-            steps: steps,
-        },
-        Read::Refused(r) => ReadAnswer {
-            refusal: crate::number(r),
-            detail: limits::detail(r),
-            threads: 0,
-            slots: 0,
-            operations: 0,
-            steps: 0,
-        },
-    }
+    let mut lent = Lent {
+        thread,
+        kind,
+        sample,
+        schedule,
+    };
+    reader::read_run(text, &mut lent).into()
 }
 
 // Writes the run file of a run's input into the lent text.
@@ -71,19 +101,8 @@ pub extern "C" fn pollenloom_write(
 ) -> TextAnswer
     ensures { WriteTells (input_of threads slots thread.now kind.now sample.now schedule.now) text.old result text.new }
 {
-    let made = writer::write_run(threads, slots, thread, kind, sample, schedule, text);
-    match made {
-        Written::Bytes(n) => TextAnswer {
-            refusal: 0,
-            detail: 0,
-            bytes: n,
-        },
-        Written::Refused(r) => TextAnswer {
-            refusal: crate::number(r),
-            detail: limits::detail(r),
-            bytes: 0,
-        },
-    }
+    let input = crate::lent_input(threads, slots, thread, kind, sample, schedule);
+    writer::write_run(&input, text).into()
 }
 
 // Writes the listing of a run into the lent text; 12,288 bytes have room for every listing.
@@ -99,17 +118,6 @@ pub extern "C" fn pollenloom_list(
 ) -> TextAnswer
     ensures { ListTells (input_of threads slots thread.now kind.now sample.now schedule.now) text.old result text.new }
 {
-    let listed = listing::list_run(threads, slots, thread, kind, sample, schedule, text);
-    match listed {
-        Listing::Bytes(count) => TextAnswer {
-            refusal: 0,
-            detail: 0,
-            bytes: count,
-        },
-        Listing::Refused(r) => TextAnswer {
-            refusal: crate::number(r),
-            detail: limits::detail(r),
-            bytes: 0,
-        },
-    }
+    let input = crate::lent_input(threads, slots, thread, kind, sample, schedule);
+    listing::list_run(&input, text).into()
 }

@@ -1,4 +1,5 @@
 -- Laws of the short way to read a step: its bytes, one by one, are the line of its number. Assumes nothing.
+use Rattle.std.specs.Prelude.{Some}
 use mathlib.Core.Path.{◌≡◌, refl, sym, ◌∙◌, ap}
 use mathlib.Core.List.{List, [], ◌∷◌, ◌++◌}
 use Prim.Native.Nat.{ℕ, suc, ◌+◌, ◌-◌, ◌*◌, ◌/◌, ◌%◌, ◌≤◌, ◌<◌}
@@ -10,11 +11,10 @@ use Rattle.numerals.proofs.PrintLaws.{decimal_one, decimal_more}
 use Rattle.runfile.specs.Spelling.{step_word, pair_line, ended}
 use Rattle.runfile.specs.Reading.{parts}
 use Rattle.runfile.proofs.ReadRound.{pair_line_read, step_first}
-use Rattle.reader.specs.declared.fields.Pair.TheVariants as P
 use Rattle.reader.specs.Twins.{LineSays}
 
 -- a text that goes on with the line of a step
-step_line : (s : List ℕ) (a n next : ℕ) → n ≤ 255 → a < next → next ≤ length s → drop a s ≡ ended (pair_line step_word n) (drop next s) → LineSays step_word s a (P.Is n next)
+step_line : (s : List ℕ) (a n next : ℕ) → n ≤ 255 → a < next → next ≤ length s → drop a s ≡ ended (pair_line step_word n) (drop next s) → LineSays step_word s a (Some (n, next))
 step_line s a n next h l m e = (pair_line step_word n, (ap (parts 10) e ∙ step_first n (drop next s), (pair_line_read step_word (refl, (refl, (refl, (refl, tt)))) n h, (l, m))))
 
 module _ (s : List ℕ) (a f : ℕ) (at : f ≡ a + 5) (room : 8 ≤ length s - a) (word : take (f - a) (drop a s) ≡ step_word ++ (9 ∷ [])) where
@@ -34,14 +34,14 @@ module _ (s : List ℕ) (a f : ℕ) (at : f ≡ a + 5) (room : 8 ≤ length s - 
   d = get_or s (f + 1) 0
 
   module _ (low : 48 ≤ c) (high : c ≤ 57) where
-    pub short_one : d ≡ 10 → LineSays step_word s a (P.Is (c - 48) (f + 2))
+    pub short_one : d ≡ 10 → LineSays step_word s a (Some (c - 48, f + 2))
     short_one e =
         let digit : c ∷ [] ≡ decimal (c - 48) = let q : c ≡ 48 + (c - 48) = omega arith in ap (λ (k : ℕ). k ∷ []) q ∙ sym (decimal_one (c - 48) (omega arith)) in
         step_line s a (c - 48) (f + 2) (omega arith) (omega arith) (omega arith)
         (front ∙ ap (λ (t : List ℕ). step_word ++ (9 ∷ t)) (next_byte f (f + 1) c (omega arith) (omega arith) refl ∙ ap (λ (t : List ℕ). c ∷ t) (next_byte (f + 1) (f + 2) 10 (omega arith) (omega arith) e)
         ∙ ap (λ (t : List ℕ). t ++ (10 ∷ drop (f + 2) s)) digit))
 
-    pub short_two : (c ≡ 48 → ⊥) → 48 ≤ d → d ≤ 57 → get_or s (f + 2) 0 ≡ 10 → LineSays step_word s a (P.Is ((c - 48) * 10 + (d - 48)) (f + 3))
+    pub short_two : (c ≡ 48 → ⊥) → 48 ≤ d → d ≤ 57 → get_or s (f + 2) 0 ≡ 10 → LineSays step_word s a (Some ((c - 48) * 10 + (d - 48), f + 3))
     short_two ne lo hi e =
         let n = (c - 48) * 10 + (d - 48) in
         let p : 10 ≤ n = omega (arith, ne) in

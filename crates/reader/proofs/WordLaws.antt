@@ -1,5 +1,6 @@
 -- Laws of the words and fields of a line that stands in a text: the word that it begins with, the number after it, a put's two fields.
 -- Assumes nothing.
+use Rattle.std.specs.Prelude.{None, Option, Some}
 use mathlib.Core.Path.{◌≡◌, refl, sym, ◌∙◌, ap, subst}
 use mathlib.Core.Bool.{Bool, true, false, cond}
 use mathlib.Core.List.{List, [], ◌∷◌, ◌++◌}
@@ -12,14 +13,8 @@ use lib.Seq.{take-nil, take-take, split_at, length-take-le, get_or-take, get_or-
 use mir.Syntax.{w32}
 use mir.Val.{to_z, of_z}
 use mir.ValLaws.{to_z-of_z}
-use Rattle.numerals.specs.declared.Number.{Number}
-use Rattle.numerals.specs.declared.Number.TheVariants as N
-use Rattle.numerals.specs.declared.Sample.{Sample}
-use Rattle.numerals.specs.declared.Sample.TheVariants as S
 use Rattle.numerals.specs.Reading.{number_of, sample_of}
 use Rattle.numerals.proofs.NumeralRound.{SampleIs, sample_is}
-use Rattle.runfile.specs.declared.Operation.TheVariants as O
-use Rattle.reader.specs.declared.fields.Field.TheVariants as F
 use Rattle.runfile.specs.Spelling.{put_word, take_word}
 use Rattle.runfile.specs.Reading.{parts, same, number_after, take_of, put_of, operation_of}
 use Rattle.runfile.specs.Twins.{until, Free}
@@ -37,34 +32,34 @@ module _ (rest : List ℕ) where
       ap put_in (put_parts ∙ ap (λ (ps : List (List ℕ)). put_word ∷ ps) e)
       ∙ parts_cases (λ ps. put_in (put_word ∷ t ∷ ps) ≡ put_of (number_of t) (sample_of x)) x refl (λ p q ps d. sym (ap (put_of (number_of t)) (sample_tab x p q ps d) ∙ bad (number_of t)))
     where
-      bad : (n : Number) → put_of n S.Bad ≡ O.Bad
-      bad (N.Is v) = refl
-      bad N.Bad = refl
+      bad : (n : Option ℕ) → put_of n None ≡ None
+      bad (Some v) = refl
+      bad None = refl
 
-  pub put_short : parts 9 rest ≡ rest ∷ [] → put_in (parts 9 (put_word ++ (9 ∷ rest))) ≡ O.Bad
+  pub put_short : parts 9 rest ≡ rest ∷ [] → put_in (parts 9 (put_word ++ (9 ∷ rest))) ≡ None
   put_short e = ap put_in (put_parts ∙ ap (λ (ps : List (List ℕ)). put_word ∷ ps) e)
 
-pub put_none : (l : List ℕ) → ((rest : List ℕ) → l ≡ put_word ++ (9 ∷ rest) → ⊥) → put_in (parts 9 l) ≡ O.Bad
+pub put_none : (l : List ℕ) → ((rest : List ℕ) → l ≡ put_word ++ (9 ∷ rest) → ⊥) → put_in (parts 9 l) ≡ None
 put_none l h = go (parts 9 l) (together_parts 9 l)
   where
-    go : (ps : List (List ℕ)) → together 9 ps ≡ l → put_in ps ≡ O.Bad
+    go : (ps : List (List ℕ)) → together 9 ps ≡ l → put_in ps ≡ None
     go [] t = refl
     go (f ∷ []) t = refl
     go (f ∷ n ∷ []) t = refl
     go (f ∷ n ∷ x ∷ []) t = at (same f put_word) refl
       where
-        at : (b : Bool) → same f put_word ≡ b → cond b (put_of (number_of n) (sample_of x)) O.Bad ≡ O.Bad
+        at : (b : Bool) → same f put_word ≡ b → cond b (put_of (number_of n) (sample_of x)) None ≡ None
         at true e = absurd (h (n ++ (9 ∷ x)) (sym t ∙ ap (λ (y : List ℕ). y ++ (9 ∷ (n ++ (9 ∷ x)))) (same_is f put_word e)))
         at false e = refl
     go (f ∷ n ∷ x ∷ m ∷ ps) t = refl
 
 -- a line that is no take is its put
-pub op_put : (ps : List (List ℕ)) → number_after take_word ps ≡ N.Bad → put_in ps ≡ operation_of ps
+pub op_put : (ps : List (List ℕ)) → number_after take_word ps ≡ None → put_in ps ≡ operation_of ps
 op_put [] e = refl
 op_put (w ∷ []) e = refl
 op_put (w ∷ n ∷ []) e = at (same w take_word) e
   where
-    at : (b : Bool) → cond b (number_of n) N.Bad ≡ N.Bad → O.Bad ≡ cond b (take_of (number_of n)) O.Bad
+    at : (b : Bool) → cond b (number_of n) None ≡ None → None ≡ cond b (take_of (number_of n)) None
     at true d = ap take_of (sym d)
     at false d = refl
 op_put (w ∷ n ∷ x ∷ []) e = refl
@@ -91,7 +86,7 @@ module _ (s : List ℕ) (a e : ℕ) (ae : a ≤ e) (es : e ≤ length s) where
       drop_take m (e - a) (drop a s) ∙ ap (take (e - a - m)) (drop-drop m a s) ∙ (λ i. take (d i) (drop (sym q i) s))
 
   module _ (w : List ℕ) where
-    pub pass_short : e - a ≤ length w → PassSays a line_at w F.Missing
+    pub pass_short : e - a ≤ length w → PassSays a line_at w None
     pass_short h rest q = omega (arith, line_length, simp length-append at (ap length q))
 
     module _ (b : ℕ) (be : b ≡ a + length w) (long : length w < e - a) where
@@ -102,14 +97,14 @@ module _ (s : List ℕ) (a e : ℕ) (ae : a ≤ e) (es : e ≤ length s) where
       front = let d : b - a ≡ length w = omega arith in ap (λ (k : ℕ). take k (drop a s)) d ∙ sym (take-take (length w) (e - a) (drop a s) (omega arith))
 
       -- no tab after it
-      pub pass_untabbed : (get_or s b 0 ≡ 9 → ⊥) → PassSays a line_at w F.Missing
+      pub pass_untabbed : (get_or s b 0 ≡ 9 → ⊥) → PassSays a line_at w None
       pass_untabbed h rest q = h (sym at_word ∙ ap (λ (l : List ℕ). get_or l (length w) 0) q ∙ get_or-append_seam w 9 rest 0)
 
       -- another word
-      pub pass_other : (take (b - a) (drop a s) ≡ w → ⊥) → PassSays a line_at w F.Missing
+      pub pass_other : (take (b - a) (drop a s) ≡ w → ⊥) → PassSays a line_at w None
       pass_other h rest q = h (front ∙ ap (take (length w)) q ∙ take-append_seam w (9 ∷ rest))
 
-      pub pass_at : get_or s b 0 ≡ 9 → take (b - a) (drop a s) ≡ w → PassSays a line_at w (F.At (b + 1))
+      pub pass_at : get_or s b 0 ≡ 9 → take (b - a) (drop a s) ≡ w → PassSays a line_at w (Some (b + 1))
       pass_at h q = (
         omega arith,
         split_at line_at (length w) 0 (rw line_length long)
@@ -118,17 +113,17 @@ module _ (s : List ℕ) (a e : ℕ) (ae : a ≤ e) (es : e ≤ length s) where
       )
 
     -- the number after the word, where it is passed
-    pub pair_at : Free 9 w → (f : ℕ) → PassSays a line_at w (F.At f) → number_of (take (e - f) (drop f s)) ≡ number_after w (parts 9 line_at)
+    pub pair_at : Free 9 w → (f : ℕ) → PassSays a line_at w (Some f) → number_of (take (e - f) (drop f s)) ≡ number_after w (parts 9 line_at)
     pair_at free f h =
         sym (ap number_of (line_rest (length w + 1) f (omega (arith, h.0))))
         ∙ sym (number_after_word w free (drop (length w + 1) line_at))
         ∙ ap (λ (l : List ℕ). number_after w (parts 9 l)) (sym h.1)
 
-    pub pair_inside : (f : ℕ) → PassSays a line_at w (F.At f) → f ≤ e
+    pub pair_inside : (f : ℕ) → PassSays a line_at w (Some f) → f ≤ e
     pair_inside f h = omega (arith, h.0, line_length, simp length-append at (ap length h.1))
 
   -- a put's thread and sample, where a tab parts them at u
-  module _ (f : ℕ) (h : PassSays a line_at put_word (F.At f)) (u : ℕ) (eu : u ≡ f + until 9 (drop f (take e s))) where
+  module _ (f : ℕ) (h : PassSays a line_at put_word (Some f)) (u : ℕ) (eu : u ≡ f + until 9 (drop f (take e s))) where
     fe : f ≤ e
     fe = pair_inside put_word f h
 
@@ -141,7 +136,7 @@ module _ (s : List ℕ) (a e : ℕ) (ae : a ≤ e) (es : e ≤ length s) where
     in_line : length (take e s) ≡ e
     in_line = length-take-le e s es
 
-    pub put_one : e ≤ u → O.Bad ≡ put_in (parts 9 line_at)
+    pub put_one : e ≤ u → None ≡ put_in (parts 9 line_at)
     put_one l = sym (whole ∙ put_short (drop f (take e s)) (parts_last 9 (take e s) f u eu (rw in_line fe) (rw in_line l)))
 
     pub put_two : u < e → put_of (number_of (take (u - f) (drop f s))) (sample_of (take (e - (u + 1)) (drop (u + 1) s))) ≡ put_in (parts 9 line_at)
@@ -151,5 +146,5 @@ module _ (s : List ℕ) (a e : ℕ) (ae : a ≤ e) (es : e ≤ length s) where
         ∙ (λ i. put_of (number_of ((ap (take (u - f)) (drop_take f e s) ∙ take-take (u - f) (e - f) (drop f s) (omega arith)) i)) (sample_of (drop_take (u + 1) e s i))))
 
 -- a sample that was read stands in 32 bits as itself
-pub sample_exact : (s : List ℕ) (x : ℤ) → sample_of s ≡ S.Is x → to_z w32 (of_z w32 x) ≡ x
-sample_exact s x e = let h : SampleIs (S.Is x) s = subst (λ (r : Sample). SampleIs r s) e (sample_is s) in to_z-of_z w32 x h.1
+pub sample_exact : (s : List ℕ) (x : ℤ) → sample_of s ≡ Some x → to_z w32 (of_z w32 x) ≡ x
+sample_exact s x e = let h : SampleIs (Some x) s = subst (λ (r : Option ℤ). SampleIs r s) e (sample_is s) in to_z-of_z w32 x h.1

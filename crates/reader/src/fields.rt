@@ -5,162 +5,128 @@ ghost use Rattle.runfile.specs.Reading.{parts, number_after, operation_of};
 ghost use Rattle.runfile.specs.Twins.{until, Free};
 ghost use Rattle.reader.specs.Twins.{PassSays, LineSays, ShortSays, put_in};
 
-use numerals::{Number, Sample};
+use limits::Kind;
 use runfile::Operation;
-
-// Where a line's next field begins.
-#[derive(Clone, Copy)]
-pub enum Field {
-    At(usize),
-    Missing,
-}
-
-// A line of a word and a number: the number, and where the next line begins.
-#[derive(Clone, Copy)]
-pub enum Pair {
-    Is(u8, usize),
-    Bad,
-}
 
 // The place of the first byte x of s at or after a; the length of s if there is none.
 pub(crate) fn find(s: &[u8], a: usize, x: u8) -> usize
     requires { a ≤ length s.now }
     ensures { result ≡ a + until x (drop a s.now) }
 {
-    let n = s.len();
-    let mut i = a;
-    while i < n {
+    for i in a..s.len() {
         if s[i] == x {
             return i;
         }
-        i += 1;
     }
-    i
+    s.len()
 }
 
-// The field after the word w, where the line from a to e begins with that word and a tab.
-pub(crate) fn pass_word(text: &[u8], a: usize, e: usize, w: &[u8]) -> Field
+// Where the field after the word w begins, where the line from a to e begins with that word and a tab.
+pub(crate) fn pass_word(text: &[u8], a: usize, e: usize, w: &[u8]) -> Option<usize>
     requires { (a ≤ e) × (e ≤ length text.now) }
     ensures { PassSays a (take (e - a) (drop a text.now)) w.now result }
 {
     let n = w.len();
     if e - a <= n {
-        return Field::Missing;
+        return None;
     }
     let b = a + n;
-    if text[b] == 9 {
-        if check::same(&text[a..b], w) {
-            return Field::At(b + 1);
-        }
+    if text[b] == b'\t' && check::same(&text[a..b], w) {
+        return Some(b + 1);
     }
-    Field::Missing
+    None
 }
 
 // The number of the line from a to e, where its fields are the word w and a number.
-pub(crate) fn read_pair(text: &[u8], a: usize, e: usize, w: &[u8]) -> Number
+pub(crate) fn read_pair(text: &[u8], a: usize, e: usize, w: &[u8]) -> Option<u8>
     requires { (a ≤ e) × ((e ≤ length text.now) × Free 9 w.now) }
     ensures { result ≡ number_after w.now (parts 9 (take (e - a) (drop a text.now))) }
 {
-    let Field::At(f) = pass_word(text, a, e, w) else {
-        return Number::Bad;
-    };
+    let f = pass_word(text, a, e, w)?;
     numerals::read_number(&text[f..e])
 }
 
-// The line that begins at a, where it is one of the word w and a number.
-pub(crate) fn read_line(text: &[u8], a: usize, w: &[u8]) -> Pair
+// The line that begins at a, where it is one of the word w and a number: the number, and where the next line begins.
+pub(crate) fn read_line(text: &[u8], a: usize, w: &[u8]) -> Option<(u8, usize)>
     requires { (a ≤ length text.now) × Free 9 w.now }
     ensures { LineSays w.now text.now a result }
 {
-    let n = text.len();
-    let e = find(text, a, 10);
-    if n <= e {
-        return Pair::Bad;
+    let e = find(text, a, b'\n');
+    if text.len() <= e {
+        return None;
     }
-    let Number::Is(v) = read_pair(text, a, e, w) else {
-        return Pair::Bad;
-    };
-    Pair::Is(v, e + 1)
+    let n = read_pair(text, a, e, w)?;
+    Some((n, e + 1))
 }
 
 // The line that begins at a, where it is a step of one or two digits and not the text's last bytes: most lines of most texts are.
-pub(crate) fn read_short(text: &[u8], a: usize) -> Pair
+pub(crate) fn read_short(text: &[u8], a: usize) -> Option<(u8, usize)>
     requires { a ≤ length text.now }
     ensures { ShortSays text.now a result }
 {
     if text.len() - a < 8 {
-        return Pair::Bad;
+        return None;
     }
     let f = a + 5;
     if !check::same(&text[a..f], b"step\t") {
-        return Pair::Bad;
+        return None;
     }
     let c = text[f];
-    if c < 48 {
-        return Pair::Bad;
-    }
-    if 57 < c {
-        return Pair::Bad;
+    if !c.is_ascii_digit() {
+        return None;
     }
     let d = text[f + 1];
-    if d == 10 {
-        return Pair::Is(c - 48, f + 2);
+    if d == b'\n' {
+        return Some((c - b'0', f + 2));
     }
-    if c == 48 {
-        return Pair::Bad;
+    if c != b'0' && d.is_ascii_digit() && text[f + 2] == b'\n' {
+        return Some(((c - b'0') * 10 + (d - b'0'), f + 3));
     }
-    if d < 48 {
-        return Pair::Bad;
-    }
-    if 57 < d {
-        return Pair::Bad;
-    }
-    if text[f + 2] == 10 {
-        return Pair::Is((c - 48) * 10 + (d - 48), f + 3);
-    }
-    Pair::Bad
+    None
 }
 
 // The line that begins at a, where it is a step.
-pub(crate) fn read_step(text: &[u8], a: usize) -> Pair
+pub(crate) fn read_step(text: &[u8], a: usize) -> Option<(u8, usize)>
     requires { a ≤ length text.now }
     ensures { LineSays step_word text.now a result }
 {
-    let Pair::Is(t, next) = read_short(text, a) else {
+    let Some(step) = read_short(text, a) else {
         return read_line(text, a, b"step");
     };
-    Pair::Is(t, next)
+    Some(step)
 }
 
 // The put of the line from a to e.
-pub(crate) fn read_put(text: &[u8], a: usize, e: usize) -> Operation
+pub(crate) fn read_put(text: &[u8], a: usize, e: usize) -> Option<Operation>
     requires { (a ≤ e) × (e ≤ length text.now) }
     ensures { result ≡ put_in (parts 9 (take (e - a) (drop a text.now))) }
 {
-    let Field::At(f) = pass_word(text, a, e, b"put") else {
-        return Operation::Bad;
-    };
-    let u = find(&text[..e], f, 9);
+    let f = pass_word(text, a, e, b"put")?;
+    let u = find(&text[..e], f, b'\t');
     if e <= u {
-        return Operation::Bad;
+        return None;
     }
-    let Number::Is(t) = numerals::read_number(&text[f..u]) else {
-        return Operation::Bad;
-    };
+    let thread = numerals::read_number(&text[f..u])?;
     let g = u + 1;
-    let Sample::Is(x) = numerals::read_sample(&text[g..e]) else {
-        return Operation::Bad;
-    };
-    Operation::Is(t, 1, x)
+    let sample = numerals::read_sample(&text[g..e])?;
+    Some(Operation {
+        thread,
+        kind: Kind::Put,
+        sample,
+    })
 }
 
 // The operation of the line from a to e.
-pub(crate) fn read_op(text: &[u8], a: usize, e: usize) -> Operation
+pub(crate) fn read_op(text: &[u8], a: usize, e: usize) -> Option<Operation>
     requires { (a ≤ e) × (e ≤ length text.now) }
     ensures { result ≡ operation_of (parts 9 (take (e - a) (drop a text.now))) }
 {
-    let Number::Is(t) = read_pair(text, a, e, b"take") else {
+    let Some(thread) = read_pair(text, a, e, b"take") else {
         return read_put(text, a, e);
     };
-    Operation::Is(t, 2, 0)
+    Some(Operation {
+        thread,
+        kind: Kind::Take,
+        sample: 0,
+    })
 }

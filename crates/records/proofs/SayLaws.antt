@@ -1,31 +1,27 @@
 -- From what the core says of its sixteen records by value to what the run says of the lent ones. Assumes nothing.
 --   fits           what an accepted run has passed: few threads, room for their records, a record for each
---   count_fits     no more records are picked than the core has or the caller has room for
---   records_say    the first of the core's records are those of the threads, so storing them is all that was missing
-use mathlib.Core.Path.{◌≡◌, refl, ap, ◌∙◌}
+--   few_threads    no more records are stored than the core has or the caller has room for
+--   says_refused   a refused run leaves the lent records as they are
+--   says_ran       the first of the core's records are those of the threads, so storing them is all that was missing
+use Rattle.std.specs.Prelude.{Err, Ok}
+use Rattle.limits.specs.Refusals.{Fit}
+use Rattle.limits.specs.declared.Refusal.{Refusal}
+use mathlib.Core.Path.{◌≡◌, ◌∙◌}
 use mathlib.Core.List.{List, ◌++◌}
-use Prim.Native.Nat.{ℕ, ◌≤◌}
-use native.Mathlib.Omega.{arith}
+use Prim.Native.Nat.{◌≤◌}
 use lib.ListN.{length, take, drop, replicate, length-map}
 use lib.Seq.{take_at}
-use Rattle.limits.specs.declared.Fit.{Fit}
-use Rattle.limits.specs.declared.Fit.TheVariants.{Pass, Refused as Unfit}
 use Rattle.limits.specs.Operations.{Input, table}
-use Rattle.limits.specs.Refusals.{by_fit, lent_after}
 use Rattle.machine.specs.declared.ThreadRecord.{ThreadRecord}
 use Rattle.machine.specs.Bench.{Bench}
 use Rattle.machine.specs.Shown.{records}
 use Rattle.machine.proofs.RunLaws.{workers_length}
-use Rattle.run.specs.declared.Final.{Final}
-use Rattle.run.specs.declared.Outcome.{Outcome}
-use Rattle.run.specs.declared.Outcome.TheVariants.{Ran, Refused}
-use Rattle.run.specs.Run.{Lists, run_fit, bench_after, summary_of}
-use Rattle.run.specs.Core.{rest_record, records_after}
+use Rattle.run.specs.declared.Ran.{Ran}
+use Rattle.run.specs.Run.{Lists, run_fit, bench_after}
+use Rattle.run.specs.Core.{rest_record, records_after, core_of, RunSays}
 use Rattle.run.proofs.PassedLaws.{passed_run}
-use Rattle.run.proofs.FitLaws.{fit_passed, fit_rooms}
-use Rattle.run.proofs.OnlyLaws.{Says, core_lists}
+use Rattle.run.proofs.FitLaws.{fit_passed, fit_rooms, ran_fit, ran_summary}
 use Rattle.records.specs.Records.{RecordsSay}
-use Rattle.records.specs.Twins.{count_of}
 
 module _ (i : Input) (l : Lists) (rs : List ThreadRecord) where
   abbrev B : Bench
@@ -41,7 +37,7 @@ module _ (i : Input) (l : Lists) (rs : List ThreadRecord) where
     pub size : length (records B) ≡ i.threads
 
   -- the first two were tested; and no step of the bench adds or loses a thread
-  pub fits : fit ≡ Pass → Fits
+  pub fits : fit ≡ Ok tt → Fits
   fits e =
       let p = fit_passed i l (length rs) e in
       record {
@@ -52,30 +48,29 @@ module _ (i : Input) (l : Lists) (rs : List ThreadRecord) where
 
   -- ---- what the core says, and then the run
 
-  module _ (m : Lists) (fin : Final) (core : Says i l (length rs) (record { final = fin; lists = m })) (n : ℕ) (counted : n ≡ count_of fin.outcome i.threads) where
-    -- one for each thread if the run was accepted, none if it was refused
-    by_fit_lem : (f : Fit) → fit ≡ f → n ≡ count_of (by_fit f (Ran (summary_of i)) Refused) i.threads
-    by_fit_lem f e = counted ∙ ap (λ (a : Outcome). count_of a i.threads) core.outcome ∙ ap (λ (g : Fit). count_of (by_fit g (Ran (summary_of i)) Refused) i.threads) e
+  pub says_refused : (m : Lists) (r : Refusal) → RunSays i l m (length rs) (Err r) → RecordsSay i l m rs rs (Err r)
+  says_refused m r core =
+      let e : fit ≡ Err r = ran_fit (core_of i) fit core.answer in
+      record { answer = rw e; lists = core.lists; records = rw e }
 
-    pub count_fits : (n ≤ 16) × (n ≤ length rs)
-    count_fits = go fit refl
-      where
-        go : (f : Fit) → fit ≡ f → (n ≤ 16) × (n ≤ length rs)
-        go Pass e = (omega (arith, by_fit_lem Pass e, (fits e).few), omega (arith, by_fit_lem Pass e, (fits e).room))
-        go (Unfit r) e = (omega (arith, by_fit_lem (Unfit r) e), omega (arith, by_fit_lem (Unfit r) e))
+  module _ (m : Lists) (ran : Ran) (core : RunSays i l m (length rs) (Ok ran)) where
+    pass : fit ≡ Ok tt
+    pass = ran_fit (core_of i) fit core.answer
 
-    module _ (rs' : List ThreadRecord) (stored : rs' ≡ take n fin.records ++ drop n rs) where
-      -- the core's records begin with those of the threads, and storing none changes nothing
-      lent : (f : Fit) → fit ≡ f → rs' ≡ lent_after f (records B) rs
-      unfolding records_after
-      lent Pass e =
-          let size = (fits e).size in
-          stored ∙ rw (by_fit_lem Pass e, core.records, e, take_at (records B) (drop i.threads (replicate 16 rest_record)) i.threads size, size)
-      lent (Unfit r) e = stored ∙ ap (λ (k : ℕ). take k fin.records ++ drop k rs) (by_fit_lem (Unfit r) e)
+    shown : ran ≡ core_of i
+    shown = ran_summary (core_of i) fit core.answer
 
-      pub records_say : (r : Outcome) → r ≡ fin.outcome → RecordsSay i l m rs rs' r
-      records_say r told = record {
-        answer = told ∙ core.outcome;
-        lists = core_lists i l (length rs) (record { final = fin; lists = m }) core;
-        records = lent fit refl;
-      }
+    -- no more records are stored than the core has or the caller has room for
+    pub few_threads : (i.threads ≤ 16) × (i.threads ≤ length rs)
+    few_threads = let p = fits pass in (p.few, p.room)
+
+    -- the core's records begin with those of the threads
+    pub says_ran : (rs' : List ThreadRecord) → rs' ≡ take i.threads ran.records ++ drop i.threads rs → RecordsSay i l m rs rs' (Ok ran.summary)
+    unfolding records_after
+    says_ran rs' stored =
+        let size = (fits pass).size in
+        record {
+          answer = rw (pass, shown);
+          lists = core.lists;
+          records = rw (stored, pass, shown, take_at (records B) (drop i.threads (replicate 16 rest_record)) i.threads size, size);
+        }

@@ -1,8 +1,11 @@
 -- What a run that is not refused has passed: tests 1 to 8 of its input, and 9, room in every lent list (document 01). Assumes nothing.
 --   fit_passed   the input has passed 1 to 8
 --   Rooms        no lent list is shorter than needed
---   ran_fit      a run's answer tells the refusal that its call gets, or that it gets none
---   ran_summary  the numbers of an accepted run
+--   ran_fit      an answer tells the refusal that its call gets, or that it gets none
+--   ran_summary  what an accepted call answers
+use Rattle.std.specs.Prelude.{Err, Ok, Result}
+use Rattle.limits.specs.Refusals.{Fit}
+use Rattle.limits.specs.declared.Refusal.{Refusal}
 use mathlib.Core.Path.{◌≡◌, refl}
 use mathlib.Core.Bool.{true, ◌&&◌}
 use Prim.Native.Nat.{ℕ, ◌*◌, ◌≤◌}
@@ -10,16 +13,11 @@ use lib.Dec.{leb}
 use lib.ListN.{length}
 use borrow.Author.Tests.{leb-true}
 use Rattle.limits.specs.declared.Refusal.TheVariants.{Room}
-use Rattle.limits.specs.declared.Fit.{Fit}
-use Rattle.limits.specs.declared.Fit.TheVariants.{Pass, Refused as Unfit}
 use Rattle.limits.specs.Operations.{Input}
 use Rattle.limits.specs.Refusals.{input_refusal, unless, by_fit}
 use Rattle.limits.proofs.FitLaws.{unless_pass, then_pass, both_true, fit_told}
 use Rattle.limits.proofs.PassLaws.{Passed, input_passed}
 use Rattle.history.proofs.ListLaws.{clash}
-use Rattle.run.specs.declared.Summary.{Summary}
-use Rattle.run.specs.declared.Outcome.{Outcome}
-use Rattle.run.specs.declared.Outcome.TheVariants.{Ran, Refused}
 use Rattle.run.specs.Run.{Lists, has_room, run_fit}
 
 pub record Rooms (i : Input) (l : Lists) (room : ℕ) : Type 0 where
@@ -30,12 +28,12 @@ pub record Rooms (i : Input) (l : Lists) (room : ℕ) : Type 0 where
   pub held : i.slots ≤ length l.held
   pub records : i.threads ≤ room
 
-module _ (i : Input) (l : Lists) (room : ℕ) (fits : run_fit i l room ≡ Pass) where
-  parts : (input_refusal i ≡ Pass) × (has_room i l room ≡ true)
+module _ (i : Input) (l : Lists) (room : ℕ) (fits : run_fit i l room ≡ Ok tt) where
+  parts : (input_refusal i ≡ Ok tt) × (has_room i l room ≡ true)
   unfolding run_fit
   parts =
-      let k = then_pass (input_refusal i) (unless (has_room i l room) Room Pass) fits in
-      (k.0, (unless_pass (has_room i l room) Room Pass k.1).0)
+      let k = then_pass (input_refusal i) (unless (has_room i l room) Room (Ok tt)) fits in
+      (k.0, (unless_pass (has_room i l room) Room (Ok tt) k.1).0)
 
   pub fit_passed : Passed i
   fit_passed = input_passed i parts.0
@@ -64,13 +62,14 @@ module _ (i : Input) (l : Lists) (room : ℕ) (fits : run_fit i l room ≡ Pass)
 
 -- ---- an answer tells the fit that it was given by
 
-abbrev pub fit_ran : Outcome → Fit
-fit_ran (Ran s) = Pass
-fit_ran (Refused x) = Unfit x
+module _ {A : Type 0} where
+  abbrev pub fit_ran : Result A Refusal → Fit
+  fit_ran (Ok s) = Ok tt
+  fit_ran (Err x) = Err x
 
-pub ran_fit : {r : Outcome} (a : Summary) (f : Fit) → r ≡ by_fit f (Ran a) Refused → f ≡ fit_ran r
-ran_fit a f e = fit_told fit_ran Refused refl (λ x. refl) f e
+  pub ran_fit : {r : Result A Refusal} (a : A) (f : Fit) → r ≡ by_fit f (Ok a) Err → f ≡ fit_ran r
+  ran_fit a f e = fit_told fit_ran Err refl (λ x. refl) f e
 
-pub ran_summary : {s : Summary} (a : Summary) (f : Fit) → Ran s ≡ by_fit f (Ran a) Refused → s ≡ a
-ran_summary a Pass e = cc
-ran_summary a (Unfit x) e = clash (cc)
+  pub ran_summary : {s : A} (a : A) (f : Fit) → Ok s ≡ by_fit f (Ok a) Err → s ≡ a
+  ran_summary a (Ok u) e = cc
+  ran_summary a (Err x) e = clash (cc)

@@ -2,5 +2,5 @@ pub mod FinalLaws
 pub mod ShownLaws
 pub mod FitLaws
 pub mod PassedLaws
-pub mod CoreLaws
 pub mod OnlyLaws
+pub mod CoreLaws

@@ -2,29 +2,29 @@
 --   tab         the list of f's values at the numbers below n
 --   held_at     the sample that slot i holds, by marks and owners
 --   gathered    the owners of the marked ones of the n slots from i on
---   listed_count how many entries an answer says the order got
-use Rattle.std.specs.Prelude.{◌≡◌, Bool, cond, ◌&&◌, List, [], ◌∷◌, ◌++◌, ℕ, zero, suc, ◌+◌, ◌≤◌, leb, eqb, ℤ, pos, get_or, set, take, drop, replicate}
-use Rattle.run.specs.declared.finish.Others.{Others}
-use Rattle.run.specs.Core.{rest_record}
+--   listed_by, ordered_by  how many entries the order of a state gets, and the lent order afterwards
+--   Concludes, Concluded   what the end of a run needs, and what it shows
+use Rattle.std.specs.Prelude.{◌≡◌, Bool, cond, ◌&&◌, List, [], ◌∷◌, ◌++◌, ℕ, zero, suc, ◌≤◌, leb, eqb, ℤ, pos, length, get_or, take, drop, replicate, unwrap_or}
+use Rattle.limits.specs.Operations.{Input}
 use Rattle.machine.specs.declared.ThreadRecord.{ThreadRecord}
-use Rattle.stepping.specs.declared.Thread.{Thread}
+use Rattle.stepping.specs.declared.Doing.{Doing}
 use Rattle.stepping.specs.declared.State.{State}
-use Rattle.run.specs.declared.Final.{Final}
-use Rattle.run.specs.declared.Outcome.TheVariants.{Ran}
 use Rattle.stepping.specs.Twins.{resting}
-use Rattle.order.specs.declared.Listed.{Listed}
-use Rattle.order.specs.declared.Listed.TheVariants.{Done, Unfit}
+use Rattle.order.specs.Listing.{listing_answer, listing_after}
 use Rattle.faithful.specs.Views.{phase_of}
+use Rattle.run.specs.declared.Ran.{Ran}
+use Rattle.run.specs.Core.{rest_record}
+use Rattle.run.specs.Run.{Lists}
 
 module _ {A : Type 0} where
   unfoldable pub tab : ℕ → (ℕ → A) → List A
   tab zero f = []
   tab (suc n) f = f 0 ∷ tab n (λ i. f (suc i))
 
-abbrev pub record_at : List Thread → ℕ → ThreadRecord
-record_at threads t = record { phase = phase_of (get_or threads t resting).doing }
+abbrev pub record_at : List Doing → ℕ → ThreadRecord
+record_at threads t = record { phase = phase_of (get_or threads t resting) }
 
-unfoldable pub shown_threads : List Thread → ℕ → List ThreadRecord
+unfoldable pub shown_threads : List Doing → ℕ → List ThreadRecord
 shown_threads threads n = tab n (record_at threads) ++ drop n (replicate 16 rest_record)
 
 abbrev pub held_as : List ℤ → ℕ → ℕ → ℤ
@@ -37,37 +37,49 @@ unfoldable pub gathered : List ℕ → List ℕ → ℕ → ℕ → List ℕ
 gathered marks owners i zero = []
 gathered marks owners i (suc n) = cond (eqb (get_or marks i 0) 0) (gathered marks owners (suc i) n) (get_or owners i 0 ∷ gathered marks owners (suc i) n)
 
-abbrev pub added : Others → ℕ → Others
-added o p = record { puts = set o.puts o.len p; len = o.len + 1 }
+-- the rows of a state: its finds, and the puts that nobody found
+module _ (s : State) (slots : ℕ) (codes : List ℕ) where
+  abbrev pub listed_by : ℕ → ℕ
+  listed_by room = unwrap_or (listing_answer (take s.counts.events codes) (take s.counts.finds s.takes) (take s.counts.finds s.puts) (gathered s.marks s.owners 0 slots) room) 0
 
-abbrev pub added_if : Others → ℕ → ℕ → Others
-added_if o mark p = cond (eqb mark 0) o (added o p)
-
--- the first entries are l, and no more are counted
-pub record Gathers (o : Others) (l : List ℕ) : Type 0 where
-  pub entries : take o.len o.puts ≡ l
-  pub few : o.len ≤ 64
-
-abbrev pub listed_count : Listed → ℕ
-listed_count (Done n) = n
-listed_count Unfit = 0
+  abbrev pub ordered_by : List ℕ → List ℕ
+  ordered_by order = listing_after (take s.counts.events codes) (take s.counts.finds s.takes) (take s.counts.finds s.puts) (gathered s.marks s.owners 0 slots) order
 
 -- the lists that only the end of a run fills are long enough
-abbrev pub rest_room : ℕ → ℕ → ℕ → ℕ → ℕ → ℕ → ℕ → Bool
-rest_room threads slots operations order marks held records = leb operations order && (leb slots marks && (leb slots held && leb threads records))
+abbrev pub rest_room : Input → Lists → ℕ → Bool
+rest_room i l room = leb (length i.thread) (length l.order) && (leb i.slots (length l.marks) && (leb i.slots (length l.held) && leb i.threads room))
 
 -- what the end of a run needs: nothing shown past an array or a lent list
-pub record Concludes (events finds threads slots codes marks held : ℕ) : Type 0 where
-  pub threads_most : threads ≤ 16
-  pub slots_most : slots ≤ 64
-  pub finds_most : finds ≤ 64
-  pub events_low : events ≤ codes
-  pub marks_room : slots ≤ marks
-  pub held_room : slots ≤ held
+pub record Concludes (i : Input) (s : State) (l : Lists) : Type 0 where
+  pub threads_most : i.threads ≤ 16
+  pub slots_most : i.slots ≤ 64
+  pub finds_most : s.counts.finds ≤ 64
+  pub events_low : s.counts.events ≤ length l.codes
+  pub marks_room : i.slots ≤ length l.marks
+  pub held_room : i.slots ≤ length l.held
 
-abbrev pub concluded : State → ℕ → ℕ → ℕ → ℕ → Final
-concluded s threads slots steps listed =
+abbrev pub concluded : Input → State → ℕ → Ran
+concluded i s listed =
     record {
-      outcome = Ran (record { events = s.events; order = listed; back = s.back; steps = steps; idle = s.idle; stores = s.stores; swaps = s.swaps; finds = s.finds; fruitless = s.fruitless });
-      records = shown_threads s.threads threads;
+      summary = record {
+        events = s.counts.events;
+        order = listed;
+        back = s.counts.back;
+        steps = length i.schedule;
+        idle = s.counts.idle;
+        stores = s.counts.stores;
+        swaps = s.counts.swaps;
+        finds = s.counts.finds;
+        fruitless = s.counts.fruitless;
+      };
+      records = shown_threads s.threads i.threads;
     }
+
+-- from the lists l to the lists m and what is answered
+pub record Concluded (i : Input) (s : State) (l m : Lists) (r : Ran) : Type 0 where
+  pub answer : r ≡ concluded i s (listed_by s i.slots l.codes (length l.order))
+  pub codes : m.codes ≡ l.codes
+  pub samples : m.samples ≡ l.samples
+  pub order : m.order ≡ ordered_by s i.slots l.codes l.order
+  pub marks : m.marks ≡ tab i.slots (λ k. get_or s.marks k 0) ++ drop i.slots l.marks
+  pub held : m.held ≡ tab i.slots (held_at i.sample s.marks s.owners) ++ drop i.slots l.held

@@ -1,3 +1,4 @@
 pub mod Run
 pub mod Core
 pub mod FinalTwin
+pub mod Lent

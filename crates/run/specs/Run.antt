@@ -9,10 +9,9 @@
 --   summary_of   number of events, length of the order, reservation count, and the six counts
 --   lists_after  the lists afterwards: the first entries that the run has, every entry after them as it was; on a refusal all as it was
 --   history_in   the history that an accepted run wrote: the events that the first codes and samples give
-use Rattle.std.specs.Prelude.{Bool, ◌&&◌, List, map, ℕ, ◌*◌, leb, ℤ, length, take}
+use Rattle.limits.specs.Refusals.{Fit}
+use Rattle.std.specs.Prelude.{Bool, ◌&&◌, List, map, ℕ, ◌*◌, leb, ℤ, length, take, Ok}
 use Rattle.limits.specs.declared.Refusal.TheVariants.{Room}
-use Rattle.limits.specs.declared.Fit.{Fit}
-use Rattle.limits.specs.declared.Fit.TheVariants.{Pass}
 use Rattle.limits.specs.Operations.{Input, table}
 use Rattle.limits.specs.Refusals.{input_refusal, and_then, unless, lent_after}
 use Rattle.history.specs.History.{Event, events}
@@ -38,7 +37,7 @@ has_room i l records =
     && leb i.slots (length l.marks) && leb i.slots (length l.held) && leb i.threads records
 
 unfoldable pub run_fit : Input → Lists → ℕ → Fit
-run_fit i l records = and_then (input_refusal i) (unless (has_room i l records) Room Pass)
+run_fit i l records = and_then (input_refusal i) (unless (has_room i l records) Room (Ok tt))
 
 abbrev pub bench_after : Input → Bench
 bench_after i = played (table i) (start (table i) i.threads i.slots) i.schedule

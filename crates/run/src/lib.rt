@@ -1,15 +1,16 @@
 // A table, a number of slots and a schedule go in; the run, or a numbered refusal, comes out.
 #![tactic(auto)]
 
-ghost use Rattle.std.specs.Prelude.{◌≡◌, ◌++◌, length, get_or, take, drop, replicate};
-ghost use Rattle.order.specs.Listing.{listing_answer, listing_after};
-ghost use Rattle.run.specs.Core.{RunSays, rest_record};
-ghost use Rattle.run.specs.FinalTwin.{tab, held_at, gathered, listed_count, rest_room, Concludes, concluded};
+ghost use Rattle.std.specs.Prelude.{◌≡◌};
+ghost use Rattle.limits.specs.Inputs.{input_in};
+ghost use Rattle.run.specs.Lent.{SameLists, lists_in};
+ghost use Rattle.run.specs.Core.{RunSays};
+ghost use Rattle.run.specs.FinalTwin.{rest_room, Concludes, Concluded};
 
 mod finish;
 
-use limits::{Fit, Refusal};
-use machine::{Phase, ThreadRecord};
+use limits::{Input, Refusal};
+use machine::ThreadRecord;
 use stepping::State;
 
 // Number of events, length of the order, reservation count, and the six counts.
@@ -26,161 +27,71 @@ pub struct Summary {
     pub fruitless: usize,
 }
 
-// A run's answer.
+// An accepted run: its numbers, and the thread records; the first are those of the threads, the others rest.
 #[derive(Clone, Copy)]
-pub enum Outcome {
-    Ran(Summary),
-    Refused(Refusal),
-}
-
-// A run's answer, with the thread records by value: the first are those of the threads, the others rest.
-#[derive(Clone, Copy)]
-pub struct Final {
-    pub outcome: Outcome,
+pub struct Ran {
+    pub summary: Summary,
     pub records: [ThreadRecord; 16],
 }
 
-// Whether the lists that only the end of a run fills are long enough.
-fn is_roomy(
-    threads: usize,
-    slots: usize,
-    operations: usize,
-    order: usize,
-    marks: usize,
-    held: usize,
-    records: usize,
-) -> bool
-    ensures { result ≡ rest_room threads slots operations order marks held records }
-{
-    if order < operations {
-        return false;
-    }
-    if marks < slots {
-        return false;
-    }
-    if held < slots {
-        return false;
-    }
-    threads <= records
+// The lists of numbers that a run's caller lends: event codes, event samples, order, slot marks, slot samples.
+#[derive(Drop)]
+pub struct Lent<'a> {
+    pub codes: &'a mut [u16],
+    pub values: &'a mut [i32],
+    pub order: &'a mut [u8],
+    pub marks: &'a mut [u8],
+    pub held: &'a mut [i32],
 }
 
-// No record but resting ones.
-fn no_records() -> [ThreadRecord; 16]
-    ensures { result ≡ replicate 16 rest_record }
-{
-    let rest = ThreadRecord { phase: Phase::Rest };
-    [rest; 16]
-}
+impl Lent<'_> {
+    // Whether the lists that only the end of a run fills are long enough, and there is room for the thread records.
+    fn is_roomy(&self, input: &Input, room: usize) -> bool
+        ensures { result ≡ rest_room (input_in input.now) (lists_in self.now) room }
+    {
+        input.table.thread.len() <= self.order.len()
+            && input.slots <= self.marks.len()
+            && input.slots <= self.held.len()
+            && input.threads <= room
+    }
 
-// What a run that was played shows, and its answer.
-fn conclude(
-    s: State,
-    threads: usize,
-    slots: usize,
-    sample: &[i32],
-    steps: usize,
-    codes: &[u16],
-    takes: [u8; 64],
-    puts: [u8; 64],
-    order: &mut [u8],
-    marks: &mut [u8],
-    held: &mut [i32],
-) -> Final
-    requires { Concludes s.events s.finds threads slots (length codes.now) (length marks.old) (length held.old) }
-    ensures value { result ≡ concluded s threads slots steps (listed_count (listing_answer (take s.events codes.now) (take s.finds takes) (take s.finds puts) (gathered s.marks s.owners 0 slots) (length order.old))) }
-    ensures order_after { order.new ≡ listing_after (take s.events codes.now) (take s.finds takes) (take s.finds puts) (gathered s.marks s.owners 0 slots) order.old }
-    ensures marks_after { marks.new ≡ tab slots (λ i. get_or s.marks i 0) ++ drop slots marks.old }
-    ensures held_after { held.new ≡ tab slots (held_at sample.now s.marks s.owners) ++ drop slots held.old }
-{
-    let slot_marks = s.marks;
-    let slot_owners = s.owners;
-    let at = s.threads;
-    let listed = finish::list(
-        slot_marks,
-        slot_owners,
-        slots,
-        codes,
-        s.events,
-        takes,
-        puts,
-        s.finds,
-        order,
-    );
-    finish::show_marks(slot_marks, slots, marks);
-    finish::show_held(slot_marks, slot_owners, sample, slots, held);
-    let records = finish::show_threads(at, threads);
-    let summary = Summary {
-        events: s.events,
-        order: listed,
-        back: s.back,
-        steps: steps,
-        idle: s.idle,
-        stores: s.stores,
-        swaps: s.swaps,
-        finds: s.finds,
-        fruitless: s.fruitless,
-    };
-    Final {
-        outcome: Outcome::Ran(summary),
-        records: records,
+    // What a run that was played shows, and its numbers.
+    fn conclude(&mut self, input: &Input, state: &State) -> Ran
+        requires { Concludes (input_in input.now) state.now (lists_in self.old) }
+        ensures same_lists { SameLists self.old self.new }
+        ensures concluded { Concluded (input_in input.now) state.now (lists_in self.old) (lists_in self.new) result }
+    {
+        let slots = input.slots;
+        // The codes are only read: they are lent by name since the order, another field, is lent beside them.
+        let codes = &mut *self.codes;
+        let listed = finish::list(state, slots, codes, self.order);
+        finish::show_marks(&state.marks, slots, self.marks);
+        finish::show_held(state, input.table.sample, slots, self.held);
+        let counts = state.counts;
+        let records = finish::show_threads(&state.threads, input.threads);
+        Ran {
+            summary: Summary {
+                events: counts.events,
+                order: listed,
+                back: counts.back,
+                steps: input.schedule.len(),
+                idle: counts.idle,
+                stores: counts.stores,
+                swaps: counts.swaps,
+                finds: counts.finds,
+                fruitless: counts.fruitless,
+            },
+            records,
+        }
     }
 }
 
 // The run, with the thread records by value; `room` is how many records the caller can take.
-pub fn run_core(
-    threads: usize,
-    slots: usize,
-    thread: &[u8],
-    kind: &[u8],
-    sample: &[i32],
-    schedule: &[u8],
-    codes: &mut [u16],
-    values: &mut [i32],
-    order: &mut [u8],
-    marks: &mut [u8],
-    held: &mut [i32],
-    room: usize,
-) -> Final
-    ensures { RunSays threads slots thread.now kind.now sample.now schedule.now room
-        codes.old values.old order.old marks.old held.old
-        codes.new values.new order.new marks.new held.new result }
+pub fn run_core(input: &Input, lent: &mut Lent, room: usize) -> Result<Ran, Refusal>
+    ensures same_lists { SameLists lent.old lent.new }
+    ensures says { RunSays (input_in input.now) (lists_in lent.old) (lists_in lent.new) room result }
 {
-    let roomy = is_roomy(
-        threads,
-        slots,
-        thread.len(),
-        order.len(),
-        marks.len(),
-        held.len(),
-        room,
-    );
-    let mut takes = [0u8; 64];
-    let mut puts = [0u8; 64];
-    let p = stepping::play(
-        threads, slots, thread, kind, sample, schedule, roomy, codes, values, &mut takes, &mut puts,
-    );
-    let fit = p.fit;
-    let s = p.state;
-    match fit {
-        Fit::Refused(r) => {
-            let records = no_records();
-            Final {
-                outcome: Outcome::Refused(r),
-                records: records,
-            }
-        }
-        Fit::Pass => conclude(
-            s,
-            threads,
-            slots,
-            sample,
-            schedule.len(),
-            codes,
-            takes,
-            puts,
-            order,
-            marks,
-            held,
-        ),
-    }
+    let roomy = lent.is_roomy(input, room);
+    let state = stepping::play(input, roomy, lent.codes, lent.values)?;
+    Ok(lent.conclude(input, &state))
 }

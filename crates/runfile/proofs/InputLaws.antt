@@ -2,6 +2,7 @@
 -- Assumes nothing.
 --   GoodOps    each operation of the three lists is one that refusal 5 does not name
 --   GoodSteps  each entry of a schedule is a thread
+use Rattle.limits.specs.Refusals.{Fit}
 use mathlib.Core.Path.{◌≡◌, refl, sym, ◌∙◌, ap}
 use mathlib.Core.Bool.{Bool, true, false}
 use mathlib.Core.List.{List, [], ◌∷◌}
@@ -13,7 +14,6 @@ use lib.ListN.{length, get_or, take}
 use lib.Seq.{take_all, length-take-le}
 use borrow.Author.Tests.{leb-true, leb-false, lt-leb, eq-eqb}
 use Rattle.limits.specs.declared.Refusal.TheVariants.{Threads, Slots, Lengths, Operations, Operation}
-use Rattle.limits.specs.declared.Fit.{Fit}
 use Rattle.limits.specs.Lists.{lowest}
 use Rattle.limits.specs.Operations.{Input, input_of}
 use Rattle.limits.specs.Refusals.{unless, unless_at, within, together, unfit, unfit_at, input_refusal}

@@ -9,15 +9,15 @@ use lib.Dec.{eqb}
 use borrow.Author.Tests.{eqb-true}
 use Rattle.runfile.specs.Wrong.{SameLines}
 use Rattle.runfile.specs.Reading.{onto, parts}
-use Rattle.runfile.proofs.PartsLaws.{Some, parts_some}
+use Rattle.runfile.proofs.PartsLaws.{HasPart, parts_some}
 
 abbrev pub Agree : ℕ → List (List ℕ) → List (List ℕ) → Type 0
-Agree zero ps qs = Some ps × Some qs
+Agree zero ps qs = HasPart ps × HasPart qs
 Agree (suc k) [] qs = ⊥
 Agree (suc k) (p ∷ ps) [] = ⊥
 Agree (suc k) (p ∷ ps) (q ∷ qs) = (p ≡ q) × Agree k ps qs
 
-pub agree_some : (k : ℕ) (ps qs : List (List ℕ)) → Agree k ps qs → Some ps × Some qs
+pub agree_some : (k : ℕ) (ps qs : List (List ℕ)) → Agree k ps qs → HasPart ps × HasPart qs
 agree_some zero ps qs h = h
 agree_some (suc k) [] qs h = absurd h
 agree_some (suc k) (p ∷ ps) [] h = absurd h
@@ -78,7 +78,7 @@ onto_empty : (c k : ℕ) (ps qs : List (List ℕ)) → Agree (suc k) (onto c ps)
 onto_empty c k [] qs h = let e = h.0 in let z : ◌≡◌ {A = ℕ} 0 1 = cc in omega arith
 onto_empty c k (p ∷ ps) qs h = let e = h.0 in let z : ◌≡◌ {A = ℕ} 0 1 = cc in omega arith
 
-onto_agree : (c d k : ℕ) (ps qs : List (List ℕ)) → Some ps → Some qs → Agree (suc k) (onto c ps) (onto d qs) → (c ≡ d) × Agree (suc k) ps qs
+onto_agree : (c d k : ℕ) (ps qs : List (List ℕ)) → HasPart ps → HasPart qs → Agree (suc k) (onto c ps) (onto d qs) → (c ≡ d) × Agree (suc k) ps qs
 onto_agree c d k [] qs a b h = absurd a
 onto_agree c d k (p ∷ ps) [] a b h = absurd b
 onto_agree c d k (p ∷ ps) (q ∷ qs) a b h =

@@ -1,6 +1,6 @@
 -- Laws of a text in parts, and of the first byte found in it. Assumes nothing.
 --   together x ps   the parts ps with the byte x between them
---   Some ps         there is a part
+--   HasPart ps      there is a part
 use mathlib.Core.Path.{◌≡◌, refl, sym, ◌∙◌, ap}
 use mathlib.Core.Bool.{Bool, true, false, cond}
 use mathlib.Core.List.{List, [], ◌∷◌, ◌++◌}
@@ -73,15 +73,15 @@ together x (p ∷ []) = p
 together x (p ∷ q ∷ ps) = p ++ (x ∷ together x (q ∷ ps))
 
 -- there is always a part
-abbrev pub Some : List (List ℕ) → Type 0
-Some [] = ⊥
-Some (p ∷ ps) = Unit {0}
+abbrev pub HasPart : List (List ℕ) → Type 0
+HasPart [] = ⊥
+HasPart (p ∷ ps) = Unit {0}
 
-pub parts_some : (x : ℕ) (s : List ℕ) → Some (parts x s)
+pub parts_some : (x : ℕ) (s : List ℕ) → HasPart (parts x s)
 parts_some x [] = tt
 parts_some x (c ∷ s) = go (eqb c x) (parts x s)
   where
-    go : (b : Bool) (ps : List (List ℕ)) → Some (cond b ([] ∷ ps) (onto c ps))
+    go : (b : Bool) (ps : List (List ℕ)) → HasPart (cond b ([] ∷ ps) (onto c ps))
     go true ps = tt
     go false [] = tt
     go false (p ∷ ps) = tt
@@ -91,7 +91,7 @@ together_onto x c [] = refl
 together_onto x c (p ∷ []) = refl
 together_onto x c (p ∷ q ∷ ps) = refl
 
-together_new : (x : ℕ) (ps : List (List ℕ)) → Some ps → together x ([] ∷ ps) ≡ x ∷ together x ps
+together_new : (x : ℕ) (ps : List (List ℕ)) → HasPart ps → together x ([] ∷ ps) ≡ x ∷ together x ps
 together_new x [] h = absurd h
 together_new x (p ∷ ps) h = refl
 

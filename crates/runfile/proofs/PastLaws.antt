@@ -2,15 +2,14 @@
 --   NotBefore m f   no line before m is wrong
 --   IsFile f        no line at all is wrong
 --   Keeps g         g leaves wrong what is wrong, at the same line, and nothing else
+use Rattle.limits.specs.Parts.{kind_number}
+use Rattle.std.specs.Prelude.{None, Option, Some}
+use Rattle.runfile.specs.declared.Operation.{Operation}
 use mathlib.Core.Path.{◌≡◌, refl, sym, ◌∙◌, subst}
 use mathlib.Core.List.{List, [], ◌∷◌}
 use Prim.Native.Nat.{ℕ, zero, suc, ◌+◌, ◌≤◌}
 use native.Mathlib.Omega.{arith}
 use lib.IntN.{ℤ}
-use Rattle.numerals.specs.declared.Number.{Number}
-use Rattle.numerals.specs.declared.Number.TheVariants as N
-use Rattle.runfile.specs.declared.Operation.{Operation}
-use Rattle.runfile.specs.declared.Operation.TheVariants as O
 use Rattle.runfile.specs.Spelling.{threads_word, slots_word, step_word}
 use Rattle.runfile.specs.Wrong.{File, file, wrong}
 use Rattle.runfile.specs.Reading.{parts, number_after, operation_of, add_threads, add_slots, add_op, add_step, or_wrong, or_steps, at_end, steps_from, ops_from, slots_then, threads_then}
@@ -67,9 +66,9 @@ pub keeps_step : (t : ℕ) → Keeps (add_step t)
 keeps_step t = keeps (add_step t) (λ k. refl) (λ a b ts ks xs ss. tt)
 
 -- ---- the reading from line j on finds no line before j wrong
-or_low : (m k : ℕ) (r : Number) (g : ℕ → File) → m ≤ k → ((n : ℕ) → NotBefore m (g n)) → NotBefore m (or_wrong k r g)
-or_low m k (N.Is n) g l h = h n
-or_low m k N.Bad g l h = l
+or_low : (m k : ℕ) (r : Option ℕ) (g : ℕ → File) → m ≤ k → ((n : ℕ) → NotBefore m (g n)) → NotBefore m (or_wrong k r g)
+or_low m k (Some n) g l h = h n
+or_low m k None g l h = l
 
 end_low : (j : ℕ) (l : List ℕ) → NotBefore j (at_end j l)
 end_low j [] = tt
@@ -87,9 +86,9 @@ ops_low j [] = omega arith
 ops_low j (l ∷ []) = end_low j l
 ops_low j (l ∷ m ∷ ls) = go (operation_of (parts 9 l)) (ops_low (suc j) (m ∷ ls))
   where
-    go : (o : Operation) → NotBefore (suc j) (ops_from (suc j) (m ∷ ls)) → NotBefore j (or_steps o (ops_from (suc j) (m ∷ ls)) (steps_from j (l ∷ m ∷ ls)))
-    go (O.Is t k x) h = (keeps_op t k x).low j (ops_from (suc j) (m ∷ ls)) (not_less j (suc j) (ops_from (suc j) (m ∷ ls)) (omega arith) h)
-    go O.Bad h = steps_low j (l ∷ m ∷ ls)
+    go : (o : Option Operation) → NotBefore (suc j) (ops_from (suc j) (m ∷ ls)) → NotBefore j (or_steps o (ops_from (suc j) (m ∷ ls)) (steps_from j (l ∷ m ∷ ls)))
+    go (Some o) h = (keeps_op o.thread (kind_number o.kind) o.sample).low j (ops_from (suc j) (m ∷ ls)) (not_less j (suc j) (ops_from (suc j) (m ∷ ls)) (omega arith) h)
+    go None h = steps_low j (l ∷ m ∷ ls)
 
 slots_low : (ps : List (List ℕ)) → NotBefore 2 (slots_then ps)
 slots_low [] = omega arith
@@ -106,9 +105,9 @@ threads_low (l ∷ m ∷ ls) =
     or_low 1 1 (number_after threads_word (parts 9 l)) (λ n. add_threads n rest) (omega arith) (λ n. (keeps_threads n).low 1 rest (not_less 1 2 rest (omega arith) (slots_low (m ∷ ls))))
 
 -- ---- nor a line among the first i, where these are the first of a text with no wrong line
-or_past : (m k : ℕ) (r : Number) (g : ℕ → File → File) (f f' : File) → ((n : ℕ) → Keeps (g n)) → (IsFile f' → NotBefore m f) → IsFile (or_wrong k r (λ n. g n f')) → NotBefore m (or_wrong k r (λ n. g n f))
-or_past m k (N.Is n) g f f' keep ih h = (keep n).low m f (ih ((keep n).back f' h))
-or_past m k N.Bad g f f' keep ih h = absurd h
+or_past : (m k : ℕ) (r : Option ℕ) (g : ℕ → File → File) (f f' : File) → ((n : ℕ) → Keeps (g n)) → (IsFile f' → NotBefore m f) → IsFile (or_wrong k r (λ n. g n f')) → NotBefore m (or_wrong k r (λ n. g n f))
+or_past m k (Some n) g f f' keep ih h = (keep n).low m f (ih ((keep n).back f' h))
+or_past m k None g f f' keep ih h = absurd h
 
 steps_past : (i j m : ℕ) (ps qs : List (List ℕ)) → m ≡ j + i → Agree i ps qs → IsFile (steps_from j qs) → NotBefore m (steps_from j ps)
 steps_past zero j m ps qs e a h = not_less m j (steps_from j ps) (omega arith) (steps_low j ps)
@@ -131,10 +130,10 @@ ops_past (suc i) j m (l ∷ ps) (q ∷ qs) e a h =
     subst (NotBefore m) (sym (ops_turn j l ps some.0))
     (go (operation_of (parts 9 l)) (ops_past i (suc j) m ps qs (omega arith) a.1) (steps_past (suc i) j m (l ∷ ps) (l ∷ qs) e (refl, a.1)) (subst IsFile (ops_turn j l qs some.1) h₁))
   where
-    go : (o : Operation) → (IsFile (ops_from (suc j) qs) → NotBefore m (ops_from (suc j) ps)) → (IsFile (steps_from j (l ∷ qs)) → NotBefore m (steps_from j (l ∷ ps)))
+    go : (o : Option Operation) → (IsFile (ops_from (suc j) qs) → NotBefore m (ops_from (suc j) ps)) → (IsFile (steps_from j (l ∷ qs)) → NotBefore m (steps_from j (l ∷ ps)))
         → IsFile (or_steps o (ops_from (suc j) qs) (steps_from j (l ∷ qs))) → NotBefore m (or_steps o (ops_from (suc j) ps) (steps_from j (l ∷ ps)))
-    go (O.Is t k x) ih steps h = (keeps_op t k x).low m (ops_from (suc j) ps) (ih ((keeps_op t k x).back (ops_from (suc j) qs) h))
-    go O.Bad ih steps h = steps h
+    go (Some o) ih steps h = (keeps_op o.thread (kind_number o.kind) o.sample).low m (ops_from (suc j) ps) (ih ((keeps_op o.thread (kind_number o.kind) o.sample).back (ops_from (suc j) qs) h))
+    go None ih steps h = steps h
 
 slots_past : (i m : ℕ) (ps qs : List (List ℕ)) → m ≡ 2 + i → Agree i ps qs → IsFile (slots_then qs) → NotBefore m (slots_then ps)
 slots_past zero m ps qs e a h = not_less m 2 (slots_then ps) (omega arith) (slots_low ps)

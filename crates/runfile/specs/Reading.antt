@@ -4,18 +4,18 @@
 --                   feeds are its lines and, last, what stands after the last line feed: nothing may. The parts of a line between its tabs are its fields
 --   same            whether two fields are the same bytes
 --   number_after w  the number of a line whose fields are the word w and a number
+--   sizes, operation  the structs of the code, of their fields
 --   operation_of    the operation of a line (thread, kind, sample: 0 for a take), by its fields
 --   threads_then, slots_then, ops_from, steps_from
 --                   the reading from each place of a file on; the numbers say which line comes next. A missing line is wrong where it should have begun
 --   read_of         the reading of a whole text
-use Rattle.std.specs.Prelude.{Bool, true, false, cond, List, [], ◌∷◌, ℕ, suc, eqb, ℤ, pos}
-use Rattle.numerals.specs.Reading.{number_of, sample_of}
-use Rattle.numerals.specs.declared.Number.{Number}
-use Rattle.numerals.specs.declared.Number.TheVariants as N
-use Rattle.numerals.specs.declared.Sample.{Sample}
-use Rattle.numerals.specs.declared.Sample.TheVariants as S
+use Rattle.limits.specs.declared.Kind.{Kind}
+use Rattle.limits.specs.declared.Kind.TheVariants.{Put as putting, Take as taking}
+use Rattle.limits.specs.Parts.{kind_number}
 use Rattle.runfile.specs.declared.Operation.{Operation}
-use Rattle.runfile.specs.declared.Operation.TheVariants.{Is, Bad}
+use Rattle.runfile.specs.declared.Sizes.{Sizes}
+use Rattle.std.specs.Prelude.{Bool, true, false, cond, List, [], ◌∷◌, ℕ, suc, eqb, ℤ, pos, None, Option, Some}
+use Rattle.numerals.specs.Reading.{number_of, sample_of}
 use Rattle.runfile.specs.Spelling.{threads_word, slots_word, put_word, take_word, step_word}
 pub use Rattle.runfile.specs.Wrong.{File, file, wrong}
 
@@ -34,27 +34,33 @@ same [] (d ∷ g) = false
 same (c ∷ f) [] = false
 same (c ∷ f) (d ∷ g) = cond (eqb c d) (same f g) false
 
-abbrev pub number_after : List ℕ → List (List ℕ) → Number
-number_after word [] = N.Bad
-number_after word (w ∷ []) = N.Bad
-number_after word (w ∷ n ∷ []) = cond (same w word) (number_of n) N.Bad
-number_after word (w ∷ n ∷ f ∷ fs) = N.Bad
+abbrev pub number_after : List ℕ → List (List ℕ) → Option ℕ
+number_after word [] = None
+number_after word (w ∷ []) = None
+number_after word (w ∷ n ∷ []) = cond (same w word) (number_of n) None
+number_after word (w ∷ n ∷ f ∷ fs) = None
 
-abbrev pub take_of : Number → Operation
-take_of (N.Is t) = Is t 2 (pos 0)
-take_of N.Bad = Bad
+abbrev pub sizes : ℕ → ℕ → ℕ → ℕ → Sizes
+sizes threads slots operations steps = record { threads = threads; slots = slots; operations = operations; steps = steps }
 
-abbrev pub put_of : Number → Sample → Operation
-put_of (N.Is t) (S.Is x) = Is t 1 x
-put_of (N.Is t) S.Bad = Bad
-put_of N.Bad x = Bad
+abbrev pub operation : ℕ → Kind → ℤ → Operation
+operation t k x = record { thread = t; kind = k; sample = x }
 
-abbrev pub operation_of : List (List ℕ) → Operation
-operation_of [] = Bad
-operation_of (w ∷ []) = Bad
-operation_of (w ∷ t ∷ []) = cond (same w take_word) (take_of (number_of t)) Bad
-operation_of (w ∷ t ∷ x ∷ []) = cond (same w put_word) (put_of (number_of t) (sample_of x)) Bad
-operation_of (w ∷ t ∷ x ∷ f ∷ fs) = Bad
+abbrev pub take_of : Option ℕ → Option Operation
+take_of (Some t) = Some (operation t taking (pos 0))
+take_of None = None
+
+abbrev pub put_of : Option ℕ → Option ℤ → Option Operation
+put_of (Some t) (Some x) = Some (operation t putting x)
+put_of (Some t) None = None
+put_of None x = None
+
+abbrev pub operation_of : List (List ℕ) → Option Operation
+operation_of [] = None
+operation_of (w ∷ []) = None
+operation_of (w ∷ t ∷ []) = cond (same w take_word) (take_of (number_of t)) None
+operation_of (w ∷ t ∷ x ∷ []) = cond (same w put_word) (put_of (number_of t) (sample_of x)) None
+operation_of (w ∷ t ∷ x ∷ f ∷ fs) = None
 
 -- what the lines after a line give, with that line's record before it
 abbrev pub add_threads : ℕ → File → File
@@ -74,14 +80,14 @@ add_step t (file a b thread kind sample schedule) = file a b thread kind sample 
 add_step t (wrong k) = wrong k
 
 -- a number's reading taken apart: any other case is wrong at line k
-abbrev pub or_wrong : ℕ → Number → (ℕ → File) → File
-or_wrong k (N.Is n) f = f n
-or_wrong k N.Bad f = wrong k
+abbrev pub or_wrong : ℕ → Option ℕ → (ℕ → File) → File
+or_wrong k (Some n) f = f n
+or_wrong k None f = wrong k
 
 -- an operation's reading taken apart: the schedule begins at the first line that holds none
-abbrev pub or_steps : Operation → File → File → File
-or_steps (Is t k x) next steps = add_op t k x next
-or_steps Bad next steps = steps
+abbrev pub or_steps : Option Operation → File → File → File
+or_steps (Some o) next steps = add_op o.thread (kind_number o.kind) o.sample next
+or_steps None next steps = steps
 
 -- after the last line feed nothing may stand
 abbrev pub at_end : ℕ → List ℕ → File

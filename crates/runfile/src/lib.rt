@@ -1,25 +1,21 @@
 // Run files: what their reader and their writer answer. No code of its own: the definitions, and what is claimed of them.
 #![tactic(auto)]
 
-use limits::Refusal;
+use limits::Kind;
 
-// A text read: the numbers of threads, slots, operations and schedule entries; or why it is refused.
+// The numbers of a run that a text holds: its threads, slots, operations and schedule entries.
 #[derive(Clone, Copy)]
-pub enum Read {
-    Run(u8, u8, usize, usize),
-    Refused(Refusal),
+pub struct Sizes {
+    pub threads: u8,
+    pub slots: u8,
+    pub operations: usize,
+    pub steps: usize,
 }
 
-// A run written: the number of bytes; or why its input is refused.
+// An operation that a line holds.
 #[derive(Clone, Copy)]
-pub enum Written {
-    Bytes(usize),
-    Refused(Refusal),
-}
-
-// An operation that a line holds (thread, kind, sample), or none.
-#[derive(Clone, Copy)]
-pub enum Operation {
-    Is(u8, u8, i32),
-    Bad,
+pub struct Operation {
+    pub thread: u8,
+    pub kind: Kind,
+    pub sample: i32,
 }

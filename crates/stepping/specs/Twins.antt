@@ -1,25 +1,28 @@
 -- Nothing in this file has to be believed: twins of this crate's private functions, on its own structs and lists.
 --   Within n c      no count of c is above n, and the reservation count is at most 64
---   …Moved, …Codes  what one phase's step makes of the counts and the thread, and of a list
+--   called, reserved, stored, given, begun, passed, swapped   what a phase's step makes of the state, and what the thread does next
 --   acted           the step of a thread, by what it is doing
---   World           a state, with the lists that the run writes
+--   World           a state, with the lists of events
 --   step_world, run_world  one step, and a schedule's steps
 --   play_twin       the whole of `play`
-use Rattle.std.specs.Prelude.{Bool, cond, ◌&&◌, List, [], ◌∷◌, map, ℕ, ◌+◌, ◌*◌, ◌≤◌, ◌<◌, ltb, leb, eqb, ℤ, pos, length, get_or, set, replicate}
+use Rattle.std.specs.Prelude.{◌≡◌, Bool, cond, ◌&&◌, List, [], ◌∷◌, map, ℕ, ◌+◌, ◌*◌, ◌≤◌, ◌<◌, ltb, leb, eqb, ℤ, pos, Option, Some, None, Result, Ok, Err, length, get_or, set, replicate}
+use Rattle.limits.specs.declared.Refusal.{Refusal}
 use Rattle.limits.specs.declared.Refusal.TheVariants.{Room}
-use Rattle.limits.specs.declared.Fit.{Fit}
-use Rattle.limits.specs.declared.Fit.TheVariants.{Pass, Refused}
-use Rattle.limits.specs.Operations.{input_of}
-use Rattle.limits.specs.Refusals.{input_refusal, and_then, unless}
+use Rattle.limits.specs.Operations.{Input}
+use Rattle.limits.specs.Refusals.{Fit, input_refusal, and_then, unless, by_fit}
 use Rattle.stepping.specs.declared.Doing.{Doing}
 use Rattle.stepping.specs.declared.Doing.TheVariants.{Rest, CalledPut, Reserved, Stored, CalledTake, Scanning, Holding}
-use Rattle.stepping.specs.declared.Thread.{Thread}
-use Rattle.stepping.specs.declared.Core.{Core}
+use Rattle.stepping.specs.declared.Counts.{Counts}
+use Rattle.stepping.specs.declared.Events.{Events}
 use Rattle.stepping.specs.declared.State.{State}
-use Rattle.stepping.specs.declared.Moved.{Moved}
 use Rattle.stepping.specs.PlanTwin.{plan_from}
 
-pub record Within (n : ℕ) (c : Core) : Type 0 where
+-- the lists lent for events are the same ones still
+pub record SameLists (e e' : Events) : Type 0 where
+  pub codes : e'.codes.ghost_name ≡ e.codes.ghost_name
+  pub values : e'.values.ghost_name ≡ e.values.ghost_name
+
+pub record Within (n : ℕ) (c : Counts) : Type 0 where
   pub back : c.back ≤ 64
   pub events : c.events ≤ n
   pub idle : c.idle ≤ n
@@ -28,163 +31,134 @@ pub record Within (n : ℕ) (c : Core) : Type 0 where
   pub finds : c.finds ≤ n
   pub fruitless : c.fruitless ≤ n
 
--- ---- arrays of 64 and of 128 entries: nothing past the end is written, and nothing stands there
+-- ---- a state, and what a thread of it does next
 
-abbrev pub set_in : List ℕ → ℕ → ℕ → List ℕ
-set_in l i v = cond (ltb i 64) (set l i v) l
+pub record Moved : Type 0 where
+  pub state : State
+  pub doing : Doing
 
-abbrev pub get_in : List ℕ → ℕ → ℕ
-get_in l i = cond (ltb i 64) (get_or l i 0) 0
+abbrev pub moved_of : State → Doing → Moved
+moved_of s d = record { state = s; doing = d }
 
-abbrev pub next_in : List ℕ → ℕ → ℕ
-next_in next o = cond (ltb o 128) (get_or next o 0) 255
+-- ---- the same, with the lists of events
 
--- ---- the counts, one raised
+pub record World : Type 0 where
+  pub state : State
+  pub codes : List ℕ
+  pub values : List ℤ
 
-abbrev pub core_of : ℕ → ℕ → ℕ → ℕ → ℕ → ℕ → ℕ → Core
-core_of b e i st sw f fr = record { back = b; events = e; idle = i; stores = st; swaps = sw; finds = f; fruitless = fr }
+abbrev pub world_in : State → Events → World
+world_in s e = record { state = s; codes = e.codes.now; values = e.values.now }
 
-abbrev pub back_more : Core → Core
-back_more c = core_of (c.back + 1) c.events c.idle c.stores c.swaps c.finds c.fruitless
+pub record Turn : Type 0 where
+  pub world : World
+  pub doing : Doing
 
-abbrev pub event_more : Core → Core
-event_more c = core_of c.back (c.events + 1) c.idle c.stores c.swaps c.finds c.fruitless
+abbrev pub turn_of : World → Doing → Turn
+turn_of w d = record { world = w; doing = d }
 
-abbrev pub idle_more : Core → Core
-idle_more c = core_of c.back c.events (c.idle + 1) c.stores c.swaps c.finds c.fruitless
+-- ---- a state, one count raised
 
-abbrev pub store_more : Core → Core
-store_more c = core_of c.back c.events c.idle (c.stores + 1) c.swaps c.finds c.fruitless
+abbrev pub event_more : State → State
+event_more s = record s { counts = record s.counts { events = s.counts.events + 1 } }
 
-abbrev pub swap_more : Core → Core
-swap_more c = core_of c.back c.events c.idle c.stores (c.swaps + 1) c.finds c.fruitless
+abbrev pub idle_more : State → State
+idle_more s = record s { counts = record s.counts { idle = s.counts.idle + 1 } }
 
-abbrev pub find_more : Core → Core
-find_more c = core_of c.back c.events c.idle c.stores c.swaps (c.finds + 1) c.fruitless
+abbrev pub swap_more : State → State
+swap_more s = record s { counts = record s.counts { swaps = s.counts.swaps + 1 } }
 
-abbrev pub fruitless_more : Core → Core
-fruitless_more c = core_of c.back c.events c.idle c.stores c.swaps c.finds (c.fruitless + 1)
-
-abbrev pub moved_of : Core → Doing → Moved
-moved_of c p = record { core = c; thread = record { doing = p } }
+abbrev pub fruitless_more : State → State
+fruitless_more s = record s { counts = record s.counts { fruitless = s.counts.fruitless + 1 } }
 
 -- ---- the phases
 
 abbrev pub first_doing : ℕ → ℕ → Doing
 first_doing k o = cond (eqb k 1) (CalledPut o) (CalledTake o)
 
-unfoldable pub called_moved : List ℕ → Core → ℕ → Moved
-called_moved kind c o = cond (ltb o (length kind)) (moved_of (event_more c) (first_doing (get_or kind o 0) o)) (moved_of (idle_more c) (Rest o))
+-- an event is written, x beside it
+abbrev pub noted : World → ℕ → ℤ → World
+noted w code x = record { state = event_more w.state; codes = set w.codes w.state.counts.events code; values = set w.values w.state.counts.events x }
 
-unfoldable pub called_codes : List ℕ → Core → ℕ → List ℕ → List ℕ
-called_codes kind c o codes = cond (ltb o (length kind)) (set codes c.events (2 * o)) codes
+unfoldable pub called : List ℕ → World → Option ℕ → Turn
+called kind w None = turn_of (record w { state = idle_more w.state }) (Rest None)
+called kind w (Some o) = turn_of (noted w (2 * o) (pos 0)) (first_doing (get_or kind o 0) o)
 
-unfoldable pub called_values : List ℕ → Core → ℕ → List ℤ → List ℤ
-called_values kind c o values = cond (ltb o (length kind)) (set values c.events (pos 0)) values
+abbrev pub given : List (Option ℕ) → World → ℕ → ℤ → Turn
+given next w o x = turn_of (noted w (2 * o + 1) x) (Rest (get_or next o None))
 
-unfoldable pub reserved_moved : Core → ℕ → Moved
-reserved_moved c o = cond (ltb c.back 64) (moved_of (back_more c) (Reserved c.back o)) (moved_of c (CalledPut o))
+-- slot back gets the owner o
+abbrev pub owned_by : State → ℕ → State
+owned_by s o = record s { counts = record s.counts { back = s.counts.back + 1 }; owners = set s.owners s.counts.back o }
 
-abbrev pub stored_moved : Core → ℕ → Moved
-stored_moved c o = moved_of (store_more c) (Stored o)
+unfoldable pub reserved : State → ℕ → Moved
+reserved s o = cond (ltb s.counts.back 64) (moved_of (owned_by s o) (Reserved s.counts.back o)) (moved_of s (CalledPut o))
 
-abbrev pub given_moved : List ℕ → Core → ℕ → Moved
-given_moved next c o = moved_of (event_more c) (Rest (next_in next o))
+abbrev pub stored : State → ℕ → ℕ → Moved
+stored s slot o = moved_of (record s { counts = record s.counts { stores = s.counts.stores + 1 }; marks = set s.marks slot 1 }) (Stored o)
 
-unfoldable pub begun_moved : Core → ℕ → Moved
-begun_moved c o = cond (eqb c.back 0) (moved_of c (CalledTake o)) (moved_of c (Scanning 0 c.back o))
+unfoldable pub begun : State → ℕ → Doing
+begun s o = cond (eqb s.counts.back 0) (CalledTake o) (Scanning 0 s.counts.back o)
 
-unfoldable pub passed_moved : Core → ℕ → ℕ → ℕ → Moved
-passed_moved c slot end o = cond (ltb (slot + 1) end) (moved_of c (Scanning (slot + 1) end o)) (moved_of (fruitless_more c) (CalledTake o))
+unfoldable pub passed : State → ℕ → ℕ → ℕ → Moved
+passed s slot end o = cond (ltb (slot + 1) end) (moved_of s (Scanning (slot + 1) end o)) (moved_of (fruitless_more s) (CalledTake o))
 
--- the slot is empty
-abbrev pub bare : List ℕ → ℕ → Bool
-bare marks slot = eqb (get_in marks slot) 0
+-- take o found what the put that owns the slot stored
+abbrev pub found_at : State → ℕ → ℕ → State
+found_at s slot o =
+    record s {
+      counts = record s.counts { swaps = s.counts.swaps + 1; finds = s.counts.finds + 1 };
+      marks = set s.marks slot 0;
+      takes = set s.takes s.counts.finds o;
+      puts = set s.puts s.counts.finds (get_or s.owners slot 0);
+    }
 
-unfoldable pub swapped_moved : List ℤ → List ℕ → List ℕ → Core → ℕ → ℕ → ℕ → Moved
-swapped_moved sample marks owners c slot end o =
-    cond (bare marks slot) (passed_moved (swap_more c) slot end o) (moved_of (find_more (swap_more c)) (Holding o (get_or sample (get_in owners slot) (pos 0))))
-
-unfoldable pub swapped_marks : List ℕ → ℕ → List ℕ
-swapped_marks marks slot = cond (bare marks slot) marks (set_in marks slot 0)
-
--- the list of takes, or of puts, that found or were found
-unfoldable pub swapped_list : List ℕ → ℕ → Core → List ℕ → ℕ → List ℕ
-swapped_list marks slot c found o = cond (bare marks slot) found (set_in found c.finds o)
+unfoldable pub swapped : List ℤ → State → ℕ → ℕ → ℕ → Moved
+swapped sample s slot end o =
+    cond (eqb (get_or s.marks slot 0) 0) (passed (swap_more s) slot end o) (moved_of (found_at s slot o) (Holding o (get_or sample (get_or s.owners slot 0) (pos 0))))
 
 -- ---- a step of one thread
 
-pub record Turn : Type 0 where
-  pub moved : Moved
-  pub codes : List ℕ
-  pub values : List ℤ
-  pub marks : List ℕ
-  pub owners : List ℕ
-  pub takes : List ℕ
-  pub puts : List ℕ
+-- no event is written
+abbrev pub silent : World → Moved → Turn
+silent w m = turn_of (record w { state = m.state }) m.doing
 
-abbrev pub turn_of : Moved → List ℕ → List ℤ → List ℕ → List ℕ → List ℕ → List ℕ → Turn
-turn_of m cs vs ms os ts ps = record { moved = m; codes = cs; values = vs; marks = ms; owners = os; takes = ts; puts = ps }
+unfoldable pub acted : List ℕ → List ℤ → List (Option ℕ) → World → Doing → Turn
+acted kind sample next w (Rest o) = called kind w o
+acted kind sample next w (CalledPut o) = silent w (reserved w.state o)
+acted kind sample next w (Reserved slot o) = silent w (stored w.state slot o)
+acted kind sample next w (Stored o) = given next w o (pos 0)
+acted kind sample next w (CalledTake o) = turn_of w (begun w.state o)
+acted kind sample next w (Scanning slot end o) = silent w (swapped sample w.state slot end o)
+acted kind sample next w (Holding o x) = given next w o x
 
-unfoldable pub acted : List ℕ → List ℤ → List ℕ → Core → List ℕ → List ℤ → List ℕ → List ℕ → List ℕ → List ℕ → Doing → Turn
-acted kind sample next c cs vs ms os ts ps (Rest o) = turn_of (called_moved kind c o) (called_codes kind c o cs) (called_values kind c o vs) ms os ts ps
-acted kind sample next c cs vs ms os ts ps (CalledPut o) = turn_of (reserved_moved c o) cs vs ms (set_in os c.back o) ts ps
-acted kind sample next c cs vs ms os ts ps (Reserved slot o) = turn_of (stored_moved c o) cs vs (set_in ms slot 1) os ts ps
-acted kind sample next c cs vs ms os ts ps (Stored o) = turn_of (given_moved next c o) (set cs c.events (2 * o + 1)) (set vs c.events (pos 0)) ms os ts ps
-acted kind sample next c cs vs ms os ts ps (CalledTake o) = turn_of (begun_moved c o) cs vs ms os ts ps
-acted kind sample next c cs vs ms os ts ps (Scanning slot end o) =
-    turn_of (swapped_moved sample ms os c slot end o) cs vs (swapped_marks ms slot) os (swapped_list ms slot c ts o) (swapped_list ms slot c ps (get_in os slot))
-acted kind sample next c cs vs ms os ts ps (Holding o x) = turn_of (given_moved next c o) (set cs c.events (2 * o + 1)) (set vs c.events x) ms os ts ps
+-- ---- a step, and a schedule's steps
 
--- ---- states, with the lists
+abbrev pub resting : Doing
+resting = Rest None
 
-pub record World : Type 0 where
-  pub threads : List Thread
-  pub core : Core
-  pub codes : List ℕ
-  pub values : List ℤ
-  pub marks : List ℕ
-  pub owners : List ℕ
-  pub takes : List ℕ
-  pub puts : List ℕ
+abbrev pub turned : ℕ → Turn → World
+turned t u = record u.world { state = record u.world.state { threads = set u.world.state.threads t u.doing } }
 
-abbrev pub resting : Thread
-resting = record { doing = Rest 0 }
+unfoldable pub step_world : List ℕ → List ℤ → List (Option ℕ) → World → ℕ → World
+step_world kind sample next w t = turned t (acted kind sample next w (get_or w.state.threads t resting))
 
-abbrev pub core_in : State → Core
-core_in s = core_of s.back s.events s.idle s.stores s.swaps s.finds s.fruitless
-
-abbrev pub world_of : State → List ℕ → List ℤ → List ℕ → List ℕ → World
-world_of s cs vs ts ps = record { threads = s.threads; core = core_in s; codes = cs; values = vs; marks = s.marks; owners = s.owners; takes = ts; puts = ps }
-
-abbrev pub turned : List Thread → ℕ → Turn → World
-turned threads t u =
-    record { threads = set threads t u.moved.thread; core = u.moved.core; codes = u.codes; values = u.values; marks = u.marks; owners = u.owners; takes = u.takes; puts = u.puts }
-
-unfoldable pub step_world : List ℕ → List ℤ → List ℕ → World → ℕ → World
-step_world kind sample next w t =
-    turned w.threads t
-    (acted kind sample next w.core w.codes w.values w.marks w.owners w.takes w.puts (get_or w.threads t resting).doing)
-
-unfoldable pub run_world : List ℕ → List ℤ → List ℕ → World → List ℕ → World
+unfoldable pub run_world : List ℕ → List ℤ → List (Option ℕ) → World → List ℕ → World
 run_world kind sample next w [] = w
 run_world kind sample next w (t ∷ schedule) = run_world kind sample next (step_world kind sample next w t) schedule
 
 -- ---- the whole
 
-abbrev pub waiting : ℕ → Thread
-waiting o = record { doing = Rest o }
-
-unfoldable pub start_state : List ℕ → State
+unfoldable pub start_state : List (Option ℕ) → State
 start_state first =
-    record { threads = map waiting first; back = 0; events = 0; idle = 0; marks = replicate 64 0; stores = 0; swaps = 0; finds = 0; fruitless = 0; owners = replicate 64 0 }
-
-pub record Playing : Type 0 where
-  pub fit : Fit
-  pub world : World
-
-abbrev pub idle_world : List ℕ → List ℤ → List ℕ → List ℕ → World
-idle_world cs vs ts ps = world_of (start_state (replicate 16 255)) cs vs ts ps
+    record {
+      threads = map Rest first;
+      counts = record { back = 0; events = 0; idle = 0; stores = 0; swaps = 0; finds = 0; fruitless = 0 };
+      marks = replicate 64 0;
+      owners = replicate 64 0;
+      takes = replicate 64 0;
+      puts = replicate 64 0;
+    }
 
 -- a table and a schedule that the arrays of this crate have room for
 pub record Playable (thread schedule : List ℕ) : Type 0 where
@@ -193,26 +167,33 @@ pub record Playable (thread schedule : List ℕ) : Type 0 where
   pub short : length schedule ≤ 4096
   pub named : (k : ℕ) → k < length schedule → get_or schedule k 0 < 16
 
+abbrev pub world_of : State → List ℕ → List ℤ → World
+world_of s cs vs = record { state = s; codes = cs; values = vs }
+
 -- two events an operation fit what is lent
 abbrev pub room_in : Bool → ℕ → ℕ → ℕ → Bool
 room_in roomy n cs vs = roomy && (leb (2 * n) cs && leb (2 * n) vs)
 
-abbrev pub room_fit : Bool → List ℕ → List ℕ → List ℤ → Fit
-room_fit roomy thread cs vs = unless (room_in roomy (length thread) (length cs) (length vs)) Room Pass
+-- an answer, and the lists of events beside it
+pub record Played : Type 0 where
+  pub answer : Result State Refusal
+  pub codes : List ℕ
+  pub values : List ℤ
 
-unfoldable pub play_run : List ℕ → List ℕ → List ℤ → List ℕ → List ℕ → List ℤ → List ℕ → List ℕ → World
-play_run thread kind sample schedule cs vs ts ps =
-    let p = plan_from 0 thread in
-    run_world kind sample p.next (world_of (start_state p.first) cs vs ts ps) schedule
+abbrev pub played : Result State Refusal → List ℕ → List ℤ → Played
+played r cs vs = record { answer = r; codes = cs; values = vs }
 
-abbrev pub play_world : Fit → World → World → World
-play_world Pass ran idle = ran
-play_world (Refused r) ran idle = idle
+abbrev pub played_to : World → Played
+played_to w = played (Ok w.state) w.codes w.values
 
-unfoldable pub play_fit : ℕ → ℕ → List ℕ → List ℕ → List ℤ → List ℕ → Bool → List ℕ → List ℤ → Fit
-play_fit threads slots thread kind sample schedule roomy cs vs =
-    and_then (input_refusal (input_of threads slots thread kind sample schedule)) (room_fit roomy thread cs vs)
+unfoldable pub play_run : Input → List ℕ → List ℤ → World
+play_run i cs vs =
+    let p = plan_from 0 i.thread in
+    run_world i.kind i.sample p.next (world_of (start_state p.first) cs vs) i.schedule
 
-unfoldable pub play_twin : ℕ → ℕ → List ℕ → List ℕ → List ℤ → List ℕ → Bool → List ℕ → List ℤ → List ℕ → List ℕ → World
-play_twin threads slots thread kind sample schedule roomy cs vs ts ps =
-    play_world (play_fit threads slots thread kind sample schedule roomy cs vs) (play_run thread kind sample schedule cs vs ts ps) (idle_world cs vs ts ps)
+unfoldable pub play_fit : Input → Bool → List ℕ → List ℤ → Fit
+play_fit i roomy cs vs = and_then (input_refusal i) (unless (room_in roomy (length i.thread) (length cs) (length vs)) Room (Ok tt))
+
+-- on a refusal the lists stay as they are
+unfoldable pub play_twin : Input → Bool → List ℕ → List ℤ → Played
+play_twin i roomy cs vs = by_fit (play_fit i roomy cs vs) (played_to (play_run i cs vs)) (λ r. played (Err r) cs vs)

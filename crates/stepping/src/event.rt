@@ -1,75 +1,59 @@
 // Phases 0, 3 and 6: a thread calls its next operation or returns from one, each with an event.
-ghost use Rattle.std.specs.Prelude.{◌≡◌, ◌+◌, ◌*◌, set};
-ghost use Rattle.stepping.specs.Twins.{Within, called_moved, called_codes, called_values, given_moved};
+ghost use Rattle.std.specs.Prelude.{◌≡◌, ◌+◌, ◌*◌};
+ghost use Rattle.stepping.specs.Twins.{Within, SameLists, world_in, noted, turn_of, called, given};
 
-use crate::cells::{next_after, note_code, note_value};
-use crate::{Core, Doing, Moved, Thread};
+use crate::cells::{get_at, set_at};
+use crate::plan::Script;
+use crate::{Doing, Events, State};
+use limits::Kind;
 
-// Phase 0: calls operation o, or idles where o is none.
-#[tactic(auto, unfolding(crate::specs::Twins::called_moved, crate::specs::Twins::called_codes, crate::specs::Twins::called_values))]
-pub(crate) fn call_next(c: Core, o: u8, kind: &[u8], codes: &mut [u16], values: &mut [i32]) -> Moved
-    requires { Within 4096 c }
-    ensures value { result ≡ called_moved kind.now c o }
-    ensures codes_after { codes.new ≡ called_codes kind.now c o codes.old }
-    ensures values_after { values.new ≡ called_values kind.now c o values.old }
-{
-    let mut n = c;
-    let op = o as usize;
-    if op < kind.len() {
-        let at = c.events;
-        note_code(codes, at, 2 * (o as u16));
-        note_value(values, at, 0);
-        n.events = at + 1;
-        if kind[op] == 1 {
-            Moved {
-                core: n,
-                thread: Thread {
-                    doing: Doing::CalledPut(o),
-                },
+impl State {
+    // Writes an event's code, and the sample beside it.
+    fn note(&mut self, code: u16, x: i32, events: &mut Events)
+        requires { Within 4096 self.old.counts }
+        ensures same_lists { SameLists events.old events.new }
+        ensures world_after { world_in self.new events.new ≡ noted (world_in self.old events.old) code x }
+    {
+        set_at(events.codes, self.counts.events, code);
+        set_at(events.values, self.counts.events, x);
+        self.counts.events += 1;
+    }
+
+    // Phase 0: the thread calls operation o, or idles where none is left.
+    #[tactic(auto, unfolding(crate::specs::Twins::called))]
+    pub(crate) fn call_next(
+        &mut self,
+        next: Option<u8>,
+        script: &Script,
+        events: &mut Events,
+    ) -> Doing
+        requires { Within 4096 self.old.counts }
+        ensures same_lists { SameLists events.old events.new }
+        ensures turn { turn_of (world_in self.new events.new) result ≡ called script.now.table.kind.now (world_in self.old events.old) next }
+    {
+        match next {
+            Some(o) => {
+                // A code is a number, as in the lent list of codes, which C reads; `history::event_of` reads it back.
+                self.note(2 * (o as u16), 0, events);
+                match Kind::of(get_at(script.table.kind, o as usize, 0)) {
+                    Kind::Put => Doing::CalledPut(o),
+                    Kind::Take => Doing::CalledTake(o),
+                }
             }
-        } else {
-            Moved {
-                core: n,
-                thread: Thread {
-                    doing: Doing::CalledTake(o),
-                },
+            None => {
+                self.counts.idle += 1;
+                Doing::Rest(None)
             }
-        }
-    } else {
-        n.idle = c.idle + 1;
-        Moved {
-            core: n,
-            thread: Thread {
-                doing: Doing::Rest(o),
-            },
         }
     }
-}
 
-// Phases 3 and 6: a return event with x beside it; the thread's next operation comes from the plan.
-pub(crate) fn give_back(
-    c: Core,
-    o: u8,
-    x: i32,
-    next: &[u8; 128],
-    codes: &mut [u16],
-    values: &mut [i32],
-) -> Moved
-    requires { Within 4096 c }
-    ensures value { result ≡ given_moved next.now c o }
-    ensures codes_after { codes.new ≡ set codes.old c.events (2 * o + 1) }
-    ensures values_after { values.new ≡ set values.old c.events x }
-{
-    let mut n = c;
-    let at = c.events;
-    note_code(codes, at, 2 * (o as u16) + 1);
-    note_value(values, at, x);
-    n.events = at + 1;
-    let q = next_after(next, o);
-    Moved {
-        core: n,
-        thread: Thread {
-            doing: Doing::Rest(q),
-        },
+    // Phases 3 and 6: operation o returns, with x beside its event; the thread's next operation comes from the plan.
+    pub(crate) fn give_back(&mut self, o: u8, x: i32, script: &Script, events: &mut Events) -> Doing
+        requires { Within 4096 self.old.counts }
+        ensures same_lists { SameLists events.old events.new }
+        ensures turn { turn_of (world_in self.new events.new) result ≡ given script.now.next (world_in self.old events.old) o x }
+    {
+        self.note(2 * (o as u16) + 1, x, events);
+        Doing::Rest(get_at(&script.next, o as usize, None))
     }
 }

@@ -1,125 +1,56 @@
 // The schedule, step by step: the bench's state goes in by value and comes back stepped, once for each schedule entry.
 ghost use Rattle.std.specs.Prelude.{◌≡◌, ℕ, ◌≤◌, ◌<◌, length, get_or};
-ghost use Rattle.stepping.specs.Twins.{Within, core_in, world_of, turn_of, acted, step_world, run_world};
+ghost use Rattle.stepping.specs.Twins.{Within, SameLists, turn_of, acted, world_in, step_world, run_world};
 
-use crate::{Core, Doing, Moved, State, Thread, event, put, take};
+use crate::plan::Script;
+use crate::{Doing, Events, State};
 
-// The step of a thread, by what it is doing.
-#[tactic(auto, unfolding(crate::specs::Twins::acted))]
-fn act(
-    c: Core,
-    th: Thread,
-    kind: &[u8],
-    sample: &[i32],
-    next: &[u8; 128],
-    codes: &mut [u16],
-    values: &mut [i32],
-    marks: &mut [u8; 64],
-    owners: &mut [u8; 64],
-    takes: &mut [u8; 64],
-    puts: &mut [u8; 64],
-) -> Moved
-    requires { Within 4096 c }
-    ensures { turn_of result codes.new values.new marks.new owners.new takes.new puts.new
-        ≡ acted kind.now sample.now next.now c codes.old values.old marks.old owners.old takes.old puts.old th.doing }
-{
-    let p = th.doing;
-    match p {
-        Doing::Rest(o) => event::call_next(c, o, kind, codes, values),
-        Doing::CalledPut(o) => put::reserve(c, o, owners),
-        Doing::Reserved(slot, o) => put::store(c, slot, o, marks),
-        Doing::Stored(o) => event::give_back(c, o, 0, next, codes, values),
-        Doing::CalledTake(o) => take::begin(c, o),
-        Doing::Scanning(slot, end, o) => take::swap(
-            c, slot, end, o, sample, marks, owners, takes, puts,
-        ),
-        Doing::Holding(o, x) => event::give_back(c, o, x, next, codes, values),
+impl State {
+    // The step of a thread, by what it is doing; gives what it does next.
+    #[tactic(auto, unfolding(crate::specs::Twins::acted))]
+    fn act(&mut self, doing: Doing, script: &Script, events: &mut Events) -> Doing
+        requires { Within 4096 self.old.counts }
+        ensures same_lists { SameLists events.old events.new }
+        ensures turn { turn_of (world_in self.new events.new) result
+            ≡ acted script.now.table.kind.now script.now.table.sample.now script.now.next (world_in self.old events.old) doing }
+    {
+        match doing {
+            Doing::Rest(next) => self.call_next(next, script, events),
+            Doing::CalledPut(o) => self.reserve(o),
+            Doing::Reserved(slot, o) => self.store(slot, o),
+            Doing::Stored(o) => self.give_back(o, 0, script, events),
+            Doing::CalledTake(o) => self.begin(o),
+            Doing::Scanning(slot, end, o) => self.swap(slot, end, o, script),
+            Doing::Holding(o, x) => self.give_back(o, x, script, events),
+        }
     }
-}
 
-// One step of thread t.
-#[tactic(auto, unfolding(crate::specs::Twins::step_world))]
-fn step(
-    s: State,
-    t: usize,
-    kind: &[u8],
-    sample: &[i32],
-    next: &[u8; 128],
-    codes: &mut [u16],
-    values: &mut [i32],
-    takes: &mut [u8; 64],
-    puts: &mut [u8; 64],
-) -> State
-    requires { (t < 16) × Within 4096 (core_in s) }
-    ensures { world_of result codes.new values.new takes.new puts.new
-        ≡ step_world kind.now sample.now next.now (world_of s codes.old values.old takes.old puts.old) t }
-{
-    let mut threads = s.threads;
-    let mut marks = s.marks;
-    let mut owners = s.owners;
-    let th = threads[t];
-    let core = Core {
-        back: s.back,
-        events: s.events,
-        idle: s.idle,
-        stores: s.stores,
-        swaps: s.swaps,
-        finds: s.finds,
-        fruitless: s.fruitless,
-    };
-    let m = act(
-        core,
-        th,
-        kind,
-        sample,
-        next,
-        codes,
-        values,
-        &mut marks,
-        &mut owners,
-        takes,
-        puts,
-    );
-    let c = m.core;
-    let moved = m.thread;
-    threads[t] = moved;
-    State {
-        threads: threads,
-        back: c.back,
-        events: c.events,
-        idle: c.idle,
-        marks: marks,
-        stores: c.stores,
-        swaps: c.swaps,
-        finds: c.finds,
-        fruitless: c.fruitless,
-        owners: owners,
+    // One step of thread t: the state goes in by value and comes back stepped.
+    #[tactic(auto, unfolding(crate::specs::Twins::step_world))]
+    fn step(mut self, t: usize, script: &Script, events: &mut Events) -> State
+        requires { (t < 16) × Within 4096 self.counts }
+        ensures same_lists { SameLists events.old events.new }
+        ensures world_after { world_in result events.new
+            ≡ step_world script.now.table.kind.now script.now.table.sample.now script.now.next (world_in self events.old) t }
+    {
+        let doing = self.threads[t];
+        let next = self.act(doing, script, events);
+        self.threads[t] = next;
+        self
     }
-}
 
-// The whole schedule.
-pub(crate) fn run_all(
-    s: State,
-    schedule: &[u8],
-    kind: &[u8],
-    sample: &[i32],
-    next: &[u8; 128],
-    codes: &mut [u16],
-    values: &mut [i32],
-    takes: &mut [u8; 64],
-    puts: &mut [u8; 64],
-) -> State
-    requires within { Within 0 (core_in s) }
-    requires schedule_small { (length schedule.now ≤ 4096) × ((k : ℕ) → k < length schedule.now → get_or schedule.now k 0 < 16) }
-    ensures { world_of result codes.new values.new takes.new puts.new
-        ≡ run_world kind.now sample.now next.now (world_of s codes.old values.old takes.old puts.old) schedule.now }
-{
-    let mut n = s;
-    let mut i: usize = 0;
-    while i < schedule.len() {
-        let t = schedule[i] as usize;
-        n = step(n, t, kind, sample, next, codes, values, takes, puts);
-        i += 1;
+    // The whole schedule.
+    pub(crate) fn run_all(self, schedule: &[u8], script: &Script, events: &mut Events) -> State
+        requires within { Within 0 self.counts }
+        requires schedule_small { (length schedule.now ≤ 4096) × ((k : ℕ) → k < length schedule.now → get_or schedule.now k 0 < 16) }
+        ensures same_lists { SameLists events.old events.new }
+        ensures world_after { world_in result events.new
+            ≡ run_world script.now.table.kind.now script.now.table.sample.now script.now.next (world_in self events.old) schedule.now }
+    {
+        let mut state = self;
+        for t in schedule {
+            state = state.step(*t as usize, script, events);
+        }
+        state
     }
-    n
 }

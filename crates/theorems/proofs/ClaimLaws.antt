@@ -1,12 +1,12 @@
 -- What a run's own statement gives: a refused call leaves every list, an accepted one leaves what the bench shows, and demand 3 of that. Assumes nothing.
+use Rattle.std.specs.Prelude.{Err, Ok, Result}
+use Rattle.limits.specs.Refusals.{Fit}
 use mathlib.Core.Path.{◌≡◌, refl, sym, ap, ◌∙◌}
 use mathlib.Core.List.{List, map}
 use Prim.Native.Nat.{ℕ, ◌+◌}
 use lib.ListN.{length, take, drop, length-map}
 use lib.Seq.{take_at}
 use Rattle.limits.specs.declared.Refusal.{Refusal}
-use Rattle.limits.specs.declared.Fit.{Fit}
-use Rattle.limits.specs.declared.Fit.TheVariants.{Pass, Refused as Unfit}
 use Rattle.limits.specs.Lists.{over}
 use Rattle.limits.specs.Operations.{Input, table}
 use Rattle.limits.specs.Refusals.{by_fit, lent_after}
@@ -14,7 +14,6 @@ use Rattle.limits.proofs.PassLaws.{Passed, table_passed}
 use Rattle.history.specs.History.{code_of, beside}
 use Rattle.history.proofs.ListLaws.{clash}
 use Rattle.linear.specs.declared.Verdict.TheVariants.{Linear}
-use Rattle.judge.specs.declared.Judged.TheVariants.{Says}
 use Rattle.judge.specs.Judge.{judged}
 use Rattle.machine.specs.declared.ThreadRecord.{ThreadRecord}
 use Rattle.machine.specs.Bench.{Worker, Bench}
@@ -22,27 +21,24 @@ use Rattle.machine.specs.Shown.{codes, samples, order, mark, held, records}
 use Rattle.machine.proofs.RunLaws.{Run, workers_length, slots_length}
 use Rattle.machine.proofs.ChainLaws.{OrderedAt}
 use Rattle.run.specs.declared.Summary.{Summary}
-use Rattle.run.specs.declared.Outcome.{Outcome}
-use Rattle.run.specs.declared.Outcome.TheVariants.{Ran, Refused}
 use Rattle.run.specs.Run.{Lists, run_fit, bench_after, summary_of, lists_after, history_in}
 use Rattle.run.proofs.PassedLaws.{passed_run, passed_ordered, passed_most, passed_named}
 use Rattle.run.proofs.FitLaws.{fit_passed, ran_fit, ran_summary}
 use Rattle.records.specs.Records.{RecordsSay}
-use Rattle.listing.specs.declared.Listing.TheVariants.{Bytes as Listed, Refused as Unlisted}
 use Rattle.theorems.specs.Demand.{stays, Linearized}
 use Rattle.theorems.proofs.OrderLaws.{run_linearized, run_events, stores_balance}
 use Rattle.theorems.proofs.JudgedLaws.{run_judged}
 
 -- a listing that is refused leaves the text that was lent
-pub left_text : (f : Fit) (n : ℕ) (x : Refusal) (w l : List ℕ) → by_fit f (Listed n) Unlisted ≡ Unlisted x → lent_after f w l ≡ l
-left_text Pass n x w l e = clash (cc)
-left_text (Unfit q) n x w l e = refl
+pub left_text : (f : Fit) (n : ℕ) (x : Refusal) (w l : List ℕ) → by_fit f (Ok n) Err ≡ Err x → lent_after f w l ≡ l
+left_text (Ok tt) n x w l e = clash (cc)
+left_text (Err q) n x w l e = refl
 
 -- of a list that begins with n entries vs the first n are vs
 took : {A : Type 0} (vs l : List A) (n : ℕ) → length vs ≡ n → take n (over vs l) ≡ vs
 took vs l n e = take_at vs (drop (length vs) l) n e
 
-module _ (i : Input) (l m : Lists) (rs rs' : List ThreadRecord) (r : Outcome) (says : RecordsSay i l m rs rs' r) where
+module _ (i : Input) (l m : Lists) (rs rs' : List ThreadRecord) (r : Result Summary Refusal) (says : RecordsSay i l m rs rs' r) where
   abbrev B : Bench
   B = bench_after i
 
@@ -51,35 +47,35 @@ module _ (i : Input) (l m : Lists) (rs rs' : List ThreadRecord) (r : Outcome) (s
 
   -- ---- what fits is accepted, what does not is refused
 
-  pub answers_pass : fit ≡ Pass → r ≡ Ran (summary_of i)
-  answers_pass e = says.answer ∙ ap (λ (f : Fit). by_fit f (Ran (summary_of i)) Refused) e
+  pub answers_pass : fit ≡ Ok tt → r ≡ Ok (summary_of i)
+  answers_pass e = says.answer ∙ ap (λ (f : Fit). by_fit f (Ok (summary_of i)) Err) e
 
-  pub answers_unfit : (x : Refusal) → fit ≡ Unfit x → r ≡ Refused x
-  answers_unfit x e = says.answer ∙ ap (λ (f : Fit). by_fit f (Ran (summary_of i)) Refused) e
+  pub answers_unfit : (x : Refusal) → fit ≡ Err x → r ≡ Err x
+  answers_unfit x e = says.answer ∙ ap (λ (f : Fit). by_fit f (Ok (summary_of i)) Err) e
 
   -- ---- the statement leaves nothing open: each part is an equation whose right side knows only what went in
 
-  pub one_result : (n : Lists) (ts : List ThreadRecord) (q : Outcome) → RecordsSay i l n rs ts q → (m ≡ n) × (rs' ≡ ts) × (r ≡ q)
+  pub one_result : (n : Lists) (ts : List ThreadRecord) (q : Result Summary Refusal) → RecordsSay i l n rs ts q → (m ≡ n) × (rs' ≡ ts) × (r ≡ q)
   one_result n ts q a = (says.lists ∙ sym a.lists, says.records ∙ sym a.records, says.answer ∙ sym a.answer)
 
   -- ---- refused
 
-  pub left_all : (x : Refusal) → r ≡ Refused x → (m ≡ l) × (rs' ≡ rs)
+  pub left_all : (x : Refusal) → r ≡ Err x → (m ≡ l) × (rs' ≡ rs)
   left_all x e = (rw unfit at says.lists, rw unfit at says.records)
     where
-      unfit : fit ≡ Unfit x
+      unfit : fit ≡ Err x
       unfit = ran_fit (summary_of i) fit (sym e ∙ says.answer)
 
   -- ---- accepted
 
-  module _ (s : Summary) (e : r ≡ Ran s) where
-    pass : fit ≡ Pass
+  module _ (s : Summary) (e : r ≡ Ok s) where
+    pass : fit ≡ Ok tt
     pass = ran_fit (summary_of i) fit (sym e ∙ says.answer)
 
     pub ran_numbers : s ≡ summary_of i
     ran_numbers = ran_summary (summary_of i) fit (sym e ∙ says.answer)
 
-    pub ran_lists : m ≡ lists_after Pass B l
+    pub ran_lists : m ≡ lists_after (Ok tt) B l
     ran_lists = rw pass at says.lists
 
     pub ran_records : rs' ≡ over (records B) rs
@@ -132,7 +128,7 @@ module _ (i : Input) (l m : Lists) (rs rs' : List ThreadRecord) (r : Outcome) (s
     pub ran_linearized : Linearized (table i) (history_in i s m) (take i.threads rs') (take i.slots m.marks) (take i.slots m.held) (take s.order m.order)
     ran_linearized = rw (wrote_history, wrote_records, wrote_marks, wrote_held, wrote_order) (run_linearized (table i) i.threads i.slots B run ordered)
 
-    pub ran_judged : judged i.threads i.thread i.kind i.sample (take s.events m.codes) (take s.events m.samples) (take s.order m.order) ≡ Says Linear
+    pub ran_judged : judged i.threads i.thread i.kind i.sample (take s.events m.codes) (take s.events m.samples) (take s.order m.order) ≡ Ok Linear
     ran_judged = rw (wrote_codes, wrote_samples, wrote_order)
         (run_judged i.threads i.slots i.thread i.kind i.sample B run ordered
         (table_passed i ran_passed))

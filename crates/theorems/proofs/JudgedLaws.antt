@@ -1,4 +1,5 @@
 -- The judge passes what every accepted run writes (document 01, 'The judge'): it refuses nothing of it, and says 0. Assumes nothing.
+use Rattle.std.specs.Prelude.{Ok}
 use mathlib.Core.Path.{◌≡◌, refl, sym, ap, ◌∙◌}
 use mathlib.Core.Bool.{true, false}
 use mathlib.Core.List.{List}
@@ -8,14 +9,12 @@ use lib.IntN.{ℤ}
 use lib.ListN.{length, length-map}
 use borrow.Author.Tests.{eq-eqb}
 use Rattle.limits.specs.declared.Refusal.TheVariants.{Threads, Lengths, Operations}
-use Rattle.limits.specs.declared.Fit.TheVariants.{Pass}
 use Rattle.limits.specs.Operations.{table_of}
 use Rattle.limits.proofs.FitLaws.{unless_pass, lowest_none}
 use Rattle.limits.specs.Refusals.{within, together}
 use Rattle.limits.specs.Parts.{table_refusal}
 use Rattle.history.specs.History.{code_of, beside}
 use Rattle.linear.specs.declared.Verdict.TheVariants.{Linear}
-use Rattle.judge.specs.declared.Judged.TheVariants.{Says}
 use Rattle.judge.specs.Decide.{stands?}
 use Rattle.judge.specs.Judge.{fails, judge_refusal, judged}
 use Rattle.judge.specs.Marks.{event_refusal}
@@ -32,8 +31,8 @@ holds_not (yes _) p = refl
 holds_not (no n) p = absurd (n p)
 
 -- what the judge tests of the table is what passes in a run's input
-judge_passes : (threads : ℕ) (thread kind : List ℕ) (sample : List ℤ) (cs : List ℕ) (xs : List ℤ) → table_refusal threads thread kind sample ≡ Pass
-    → eqb (length xs) (length cs) ≡ true → event_refusal thread kind sample cs xs ≡ Pass → judge_refusal threads thread kind sample cs xs ≡ Pass
+judge_passes : (threads : ℕ) (thread kind : List ℕ) (sample : List ℤ) (cs : List ℕ) (xs : List ℤ) → table_refusal threads thread kind sample ≡ Ok tt
+    → eqb (length xs) (length cs) ≡ true → event_refusal thread kind sample cs xs ≡ Ok tt → judge_refusal threads thread kind sample cs xs ≡ Ok tt
 unfolding table_refusal judge_refusal event_refusal
 judge_passes threads thread kind sample cs xs e same events =
     let a = unless_pass (within 1 16 threads) Threads _ e in
@@ -46,14 +45,14 @@ judge_passes threads thread kind sample cs xs e same events =
 module _ (threads slots : ℕ) (thread kind : List ℕ) (sample : List ℤ) (B : Bench)
     (r : Run (table_of thread kind sample) threads slots B) (i : OrderedAt (table_of thread kind sample) threads B) where
   -- each event can stand
-  events_pass : event_refusal thread kind sample (codes B) (samples B) ≡ Pass
+  events_pass : event_refusal thread kind sample (codes B) (samples B) ≡ Ok tt
   unfolding event_refusal
   events_pass = rw (lowest_none (λ j. fails (stands? (table_of thread kind sample) (codes B) (samples B) j)) (length (codes B))
       (λ j lt. holds_not (stands? (table_of thread kind sample) (codes B) (samples B) j) (run_stands (table_of thread kind sample) threads slots B r i j lt)))
 
-  pub run_judged : table_refusal threads thread kind sample ≡ Pass → judged threads thread kind sample (codes B) (samples B) (order B) ≡ Says Linear
+  pub run_judged : table_refusal threads thread kind sample ≡ Ok tt → judged threads thread kind sample (codes B) (samples B) (order B) ≡ Ok Linear
   unfolding judged
   run_judged e =
       rw (judge_passes threads thread kind sample (codes B) (samples B) e
       (eq-eqb (length (samples B)) (length (codes B)) (length-map B.history beside ∙ sym (length-map B.history code_of))) events_pass)
-      (ap Says (run_verdict (table_of thread kind sample) threads slots B r i))
+      (ap Ok (run_verdict (table_of thread kind sample) threads slots B r i))

@@ -6,7 +6,9 @@ use Prim.Native.Nat.{ℕ, ◌+◌, ◌<◌}
 use lib.IntN.{ℤ, pos}
 use lib.ListN.{length, get_or, take, length-map}
 use Rattle.limits.specs.Lists.{All}
-use Rattle.limits.specs.Operations.{Kind, putting, taking, Table}
+use Rattle.limits.specs.declared.Kind.{Kind}
+use Rattle.limits.specs.declared.Kind.TheVariants.{Put as putting, Take as taking}
+use Rattle.limits.specs.Operations.{Table}
 use Rattle.history.specs.History.{code_of, event_of, events}
 use Rattle.history.specs.Standing.{CanStand}
 use Rattle.history.proofs.ListLaws.{all_imp}

@@ -2,16 +2,13 @@
 --   Even          the three operation lists of a file are of one length
 --   read_even     so they are in whatever a text holds: refusal 3 never applies to it
 --   empty_text    empty text is 11 with detail 1
+use Rattle.std.specs.Prelude.{Err, None, Option, Some}
+use Rattle.runfile.specs.declared.Operation.{Operation}
 use mathlib.Core.Path.{◌≡◌, refl, ap}
 use mathlib.Core.List.{List, [], ◌∷◌}
 use Prim.Native.Nat.{ℕ, suc}
 use lib.ListN.{length}
 use Rattle.limits.specs.declared.Refusal.TheVariants.{Line}
-use Rattle.numerals.specs.declared.Number.{Number}
-use Rattle.numerals.specs.declared.Number.TheVariants as N
-use Rattle.runfile.specs.declared.Operation.{Operation}
-use Rattle.runfile.specs.declared.Operation.TheVariants.{Is, Bad}
-use Rattle.limits.specs.declared.Fit.TheVariants.{Refused}
 use Rattle.runfile.specs.Spelling.{threads_word, slots_word, step_word}
 use Rattle.runfile.specs.Reading.{parts, number_after, operation_of, File, file, wrong, add_threads, add_slots, add_step, or_wrong, or_steps, at_end, steps_from, ops_from, slots_then, threads_then, read_of}
 use Rattle.runfile.specs.Answers.{file_fit, read_fit}
@@ -34,14 +31,14 @@ even_step : (t : ℕ) (f : File) → Even f → Even (add_step t f)
 even_step t (file a b thread kind sample schedule) e = e
 even_step t (wrong k) e = tt
 
-even_or : (k : ℕ) (n : Number) (f : ℕ → File) → ((m : ℕ) → Even (f m)) → Even (or_wrong k n f)
-even_or k (N.Is n) f e = e n
-even_or k N.Bad f e = tt
+even_or : (k : ℕ) (n : Option ℕ) (f : ℕ → File) → ((m : ℕ) → Even (f m)) → Even (or_wrong k n f)
+even_or k (Some n) f e = e n
+even_or k None f e = tt
 
-even_op : (o : Operation) (next steps : File) → Even next → Even steps → Even (or_steps o next steps)
-even_op (Is t k x) (file a b thread kind sample schedule) steps e s = (ap suc e.0, ap suc e.1)
-even_op (Is t k x) (wrong j) steps e s = tt
-even_op Bad next steps e s = s
+even_op : (o : Option Operation) (next steps : File) → Even next → Even steps → Even (or_steps o next steps)
+even_op (Some o) (file a b thread kind sample schedule) steps e s = (ap suc e.0, ap suc e.1)
+even_op (Some o) (wrong j) steps e s = tt
+even_op None next steps e s = s
 
 even_end : (k : ℕ) (l : List ℕ) → Even (at_end k l)
 even_end k [] = (refl, refl)
@@ -71,6 +68,6 @@ pub read_even : (text : List ℕ) → Even (read_of text)
 unfolding read_of
 read_even text = even_all (parts 10 text)
 
-pub empty_text : (inThread inKind inSample inSchedule : ℕ) → read_fit [] inThread inKind inSample inSchedule ≡ Refused (Line 1)
+pub empty_text : (inThread inKind inSample inSchedule : ℕ) → read_fit [] inThread inKind inSample inSchedule ≡ Err (Line 1)
 unfolding read_fit file_fit read_of
 empty_text inThread inKind inSample inSchedule = refl

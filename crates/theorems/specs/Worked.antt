@@ -2,14 +2,13 @@
 --   Result     what a run shows: that its input passes, reservation count, codes and samples of the events, order, slots, phases, the six counts
 --   result_of  the result of a run
 --   Worked     the table: each run with its result as the document gives it, and the judge's answers on run A's history
-use Rattle.std.specs.Prelude.{◌≡◌, List, [], ◌∷◌, ℕ, ℤ, pos, length}
-use Rattle.limits.specs.declared.Fit.{Fit}
-use Rattle.limits.specs.declared.Fit.TheVariants.{Pass}
+use Rattle.limits.specs.Refusals.{Fit}
+use Rattle.limits.specs.declared.Refusal.{Refusal}
+use Rattle.linear.specs.declared.Verdict.{Verdict}
+use Rattle.std.specs.Prelude.{◌≡◌, List, [], ◌∷◌, ℕ, ℤ, pos, length, Ok, Result as Answer}
 use Rattle.limits.specs.Operations.{table_of, input_of}
 use Rattle.limits.specs.Refusals.{input_refusal}
 use Rattle.linear.specs.declared.Verdict.TheVariants.{Linear, NoOperation, Missing, Turned, Unplayable}
-use Rattle.judge.specs.declared.Judged.{Judged}
-use Rattle.judge.specs.declared.Judged.TheVariants.{Says}
 use Rattle.judge.specs.Judge.{judged}
 use Rattle.machine.specs.declared.Phase.{Phase}
 use Rattle.machine.specs.declared.Phase.TheVariants.{Rest, Reserved, Stored, CalledTake, Holding}
@@ -71,12 +70,12 @@ A = two_puts (pos 100) (pos 0) (0 ∷ 0 ∷ 1 ∷ 1 ∷ 1 ∷ 1 ∷ 2 ∷ 2 ∷ 
 abbrev pub B : Result
 B = two_puts (pos 5) (pos 6) (0 ∷ 0 ∷ 1 ∷ 1 ∷ 2 ∷ 2 ∷ 2 ∷ 0 ∷ 1 ∷ 2 ∷ 2 ∷ [])
 
-abbrev pub judged_on_a : List ℕ → Judged
+abbrev pub judged_on_a : List ℕ → Answer Verdict Refusal
 judged_on_a proposed = judged 3 (0 ∷ 1 ∷ 2 ∷ []) (1 ∷ 1 ∷ 2 ∷ []) (pos 100 ∷ pos 0 ∷ pos 0 ∷ []) A.codes A.samples proposed
 
 pub record Worked : Type 0 where
   pub a : A ≡ record {
-    fit = Pass;
+    fit = Ok tt;
     back = 2;
     codes = 0 ∷ 2 ∷ 3 ∷ 4 ∷ 5 ∷ 1 ∷ [];
     samples = pos 0 ∷ pos 0 ∷ pos 0 ∷ pos 0 ∷ pos 0 ∷ pos 0 ∷ [];
@@ -91,7 +90,7 @@ pub record Worked : Type 0 where
     fruitless = 0;
   }
   pub b : B ≡ record {
-    fit = Pass;
+    fit = Ok tt;
     back = 2;
     codes = 0 ∷ 2 ∷ 4 ∷ 5 ∷ [];
     samples = pos 0 ∷ pos 0 ∷ pos 0 ∷ pos 6 ∷ [];
@@ -105,10 +104,10 @@ pub record Worked : Type 0 where
     finds = 1;
     fruitless = 0;
   }
-  pub c : result_of 1 1 [] [] [] [] ≡ record { fit = Pass; back = 0; codes = []; samples = []; order = []; slots = Empty ∷ []; phases = Rest ∷ []; steps = 0; idle = 0; stores = 0; swaps = 0; finds = 0; fruitless = 0 }
-  pub d : result_of 1 1 [] [] [] (0 ∷ 0 ∷ 0 ∷ []) ≡ record { fit = Pass; back = 0; codes = []; samples = []; order = []; slots = Empty ∷ []; phases = Rest ∷ []; steps = 3; idle = 3; stores = 0; swaps = 0; finds = 0; fruitless = 0 }
+  pub c : result_of 1 1 [] [] [] [] ≡ record { fit = Ok tt; back = 0; codes = []; samples = []; order = []; slots = Empty ∷ []; phases = Rest ∷ []; steps = 0; idle = 0; stores = 0; swaps = 0; finds = 0; fruitless = 0 }
+  pub d : result_of 1 1 [] [] [] (0 ∷ 0 ∷ 0 ∷ []) ≡ record { fit = Ok tt; back = 0; codes = []; samples = []; order = []; slots = Empty ∷ []; phases = Rest ∷ []; steps = 3; idle = 3; stores = 0; swaps = 0; finds = 0; fruitless = 0 }
   pub e : put_take (0 ∷ 0 ∷ 0 ∷ 0 ∷ 0 ∷ 0 ∷ 0 ∷ 0 ∷ []) ≡ record {
-    fit = Pass;
+    fit = Ok tt;
     back = 1;
     codes = 0 ∷ 1 ∷ 2 ∷ 3 ∷ [];
     samples = pos 0 ∷ pos 0 ∷ pos 0 ∷ pos 7 ∷ [];
@@ -123,7 +122,7 @@ pub record Worked : Type 0 where
     fruitless = 0;
   }
   pub f : put_take (0 ∷ 0 ∷ 0 ∷ 0 ∷ 0 ∷ 0 ∷ 0 ∷ []) ≡ record {
-    fit = Pass;
+    fit = Ok tt;
     back = 1;
     codes = 0 ∷ 1 ∷ 2 ∷ [];
     samples = pos 0 ∷ pos 0 ∷ pos 0 ∷ [];
@@ -137,10 +136,10 @@ pub record Worked : Type 0 where
     finds = 1;
     fruitless = 0;
   }
-  pub g : put_take (0 ∷ 0 ∷ []) ≡ record { fit = Pass; back = 1; codes = 0 ∷ []; samples = pos 0 ∷ []; order = []; slots = Empty ∷ []; phases = Reserved 0 ∷ []; steps = 2; idle = 0; stores = 0; swaps = 0; finds = 0; fruitless = 0 }
-  pub h : result_of 1 1 (0 ∷ []) (2 ∷ []) (pos 0 ∷ []) (0 ∷ 0 ∷ 0 ∷ []) ≡ record { fit = Pass; back = 0; codes = 0 ∷ []; samples = pos 0 ∷ []; order = []; slots = Empty ∷ []; phases = CalledTake ∷ []; steps = 3; idle = 0; stores = 0; swaps = 0; finds = 0; fruitless = 0 }
-  pub i_0 : judged_on_a (1 ∷ 2 ∷ 0 ∷ []) ≡ Says Linear
-  pub i_24 : judged_on_a (0 ∷ 1 ∷ 2 ∷ []) ≡ Says Unplayable
-  pub i_22 : judged_on_a (1 ∷ 2 ∷ []) ≡ Says Missing
-  pub i_23 : judged_on_a (2 ∷ 1 ∷ 0 ∷ []) ≡ Says Turned
-  pub i_20 : judged_on_a (1 ∷ 1 ∷ 2 ∷ []) ≡ Says NoOperation
+  pub g : put_take (0 ∷ 0 ∷ []) ≡ record { fit = Ok tt; back = 1; codes = 0 ∷ []; samples = pos 0 ∷ []; order = []; slots = Empty ∷ []; phases = Reserved 0 ∷ []; steps = 2; idle = 0; stores = 0; swaps = 0; finds = 0; fruitless = 0 }
+  pub h : result_of 1 1 (0 ∷ []) (2 ∷ []) (pos 0 ∷ []) (0 ∷ 0 ∷ 0 ∷ []) ≡ record { fit = Ok tt; back = 0; codes = 0 ∷ []; samples = pos 0 ∷ []; order = []; slots = Empty ∷ []; phases = CalledTake ∷ []; steps = 3; idle = 0; stores = 0; swaps = 0; finds = 0; fruitless = 0 }
+  pub i_0 : judged_on_a (1 ∷ 2 ∷ 0 ∷ []) ≡ Ok Linear
+  pub i_24 : judged_on_a (0 ∷ 1 ∷ 2 ∷ []) ≡ Ok Unplayable
+  pub i_22 : judged_on_a (1 ∷ 2 ∷ []) ≡ Ok Missing
+  pub i_23 : judged_on_a (2 ∷ 1 ∷ 0 ∷ []) ≡ Ok Turned
+  pub i_20 : judged_on_a (1 ∷ 1 ∷ 2 ∷ []) ≡ Ok NoOperation

@@ -1,29 +1,28 @@
 -- Laws of the writer: a line put after a text, line by line, and the writer's answers. Assumes nothing.
 --   Lines   the lines put so far, and those that are left
+use Rattle.std.specs.Prelude.{Err, Ok, Result}
 use mathlib.Core.Path.{◌≡◌, refl, sym, ◌∙◌, ap, subst}
 use mathlib.Core.Bool.{Bool, true, false}
 use mathlib.Core.List.{List, [], ◌∷◌, ◌++◌, append_assoc, append-nil}
 use Prim.Native.Nat.{ℕ, suc, ◌+◌, ◌≤◌, ◌<◌}
 use native.Mathlib.Omega.{arith}
-use lib.Dec.{ltb}
+use lib.Dec.{leb, ltb}
 use borrow.Author.Tests.{ltb-true, ltb-false, le-leb, lt-leb}
 use mir.Syntax.{w32}
 use mir.Val.{SFits}
 use lib.IntN.{ℤ, pos}
 use lib.ListN.{length, get_or, drop, drop_of_length-le}
 use lib.Seq.{drop-cons, sets}
-use Rattle.numerals.specs.Decimal.{decimal}
-use Rattle.numerals.specs.Samples.{sample_text}
-use Rattle.numerals.specs.Places.{after, Put}
-use Rattle.numerals.proofs.PrintLaws.{put_then, put_as, put_none}
+use Rattle.numerals.specs.declared.Page.{Page}
+use Rattle.numerals.specs.Places.{Wrote}
+use Rattle.numerals.proofs.PrintLaws.{wrote_none, wrote_then, wrote_as}
 use Rattle.limits.specs.declared.Refusal.{Refusal}
 use Rattle.limits.specs.declared.Refusal.TheVariants.{Room}
-use Rattle.limits.specs.declared.Fit.TheVariants.{Pass, Refused}
-use Rattle.limits.specs.Operations.{Input, input_of}
+use Rattle.limits.specs.Operations.{Input}
 use Rattle.limits.specs.Refusals.{input_refusal}
 use Rattle.runfile.specs.RunText.{Fitting, run_text}
-use Rattle.runfile.specs.Spelling.{threads_word, slots_word, put_word, step_word, pair_line, put_line, op_line, ended, ops_text, steps_text, spelled}
-use Rattle.runfile.specs.Answers.{write_fit}
+use Rattle.runfile.specs.Spelling.{threads_word, slots_word, step_word, pair_line, op_line, ended, ops_text, steps_text, spelled}
+use Rattle.runfile.specs.Answers.{write_fit, WriteSays}
 use Rattle.limits.specs.Lists.{over}
 use Rattle.limits.proofs.PassLaws.{input_passed}
 use Rattle.runfile.proofs.FitLaws.{over_sets}
@@ -34,33 +33,26 @@ use Rattle.runfile.proofs.SpellingLaws.{run_spelled}
 pub ended_then : (l rest : List ℕ) → ended l [] ++ rest ≡ ended l rest
 ended_then l rest = append_assoc l (10 ∷ []) rest
 
-pub pair_text : (w : List ℕ) (n : ℕ) → ((w ++ (9 ∷ [])) ++ decimal n) ++ (10 ∷ []) ≡ ended (pair_line w n) []
-pair_text w n = ap (λ (l : List ℕ). l ++ (10 ∷ [])) (append_assoc w (9 ∷ []) (decimal n))
-
-pub put_text : (t : ℕ) (x : ℤ) → (((put_word ++ (9 ∷ [])) ++ decimal t) ++ (9 ∷ [])) ++ sample_text x ++ (10 ∷ []) ≡ ended (put_line t x) []
-put_text t x = simp append_assoc
-
 -- ---- lines put one after another; whole is the text of them all, left that of those still to come
-pub record Lines (whole left out₀ : List ℕ) (at : ℕ) (out : List ℕ) (place : ℕ) : Type 0 where
+pub record Lines (whole left : List ℕ) (p q : Page) : Type 0 where
   pub done : List ℕ
-  pub put : Put out₀ at done place out
+  pub put : Wrote p done q
   pub rest : whole ≡ done ++ left
 
-pub lines_start : (whole out : List ℕ) (at : ℕ) → at ≤ 18446744073709551615 → Lines whole whole out at out at
-lines_start whole out at h = record { done = []; put = put_none out at h; rest = refl }
+pub lines_start : (whole : List ℕ) (p : Page) → Lines whole whole p p
+lines_start whole p = record { done = []; put = wrote_none p; rest = refl }
 
 -- one line more
-pub lines_next : {whole left out₀ out out' : List ℕ} {at place place' : ℕ} (l left' : List ℕ) → length out₀ ≤ 18446744073709551615 → Lines whole left out₀ at out place
-    → left ≡ ended l left' → Put out place (ended l []) place' out' → Lines whole left' out₀ at out' place'
-lines_next l left' h p e q =
+pub lines_next : {whole left : List ℕ} {p q r : Page} (l left' : List ℕ) → Lines whole left p q → left ≡ ended l left' → Wrote q (ended l []) r → Lines whole left' p r
+lines_next l left' x e y =
     record {
-      done = p.done ++ ended l [];
-      put = put_then h p.put q;
-      rest = p.rest ∙ ap (λ (t : List ℕ). p.done ++ t) (e ∙ sym (ended_then l left')) ∙ sym (append_assoc p.done (ended l []) left');
+      done = x.done ++ ended l [];
+      put = wrote_then x.put y;
+      rest = x.rest ∙ ap (λ (t : List ℕ). x.done ++ t) (e ∙ sym (ended_then l left')) ∙ sym (append_assoc x.done (ended l []) left');
     }
 
-pub lines_end : {whole left out₀ out : List ℕ} {at place : ℕ} → left ≡ [] → Lines whole left out₀ at out place → Put out₀ at whole place out
-lines_end e p = put_as (sym (p.rest ∙ ap (λ (t : List ℕ). p.done ++ t) e ∙ append-nil p.done)) p.put
+pub lines_end : {whole left : List ℕ} {p q : Page} → left ≡ [] → Lines whole left p q → Wrote p whole q
+lines_end e x = wrote_as (sym (x.rest ∙ ap (λ (t : List ℕ). x.done ++ t) e ∙ append-nil x.done)) x.put
 
 -- the lines left after i operations, and after i entries
 pub ops_left : (thread kind : List ℕ) (sample : List ℤ) (i : ℕ) → length kind ≡ length thread → length sample ≡ length thread → i < length thread
@@ -91,46 +83,38 @@ fit_next sample i low here j h = go (ltb j i) refl
 
 -- ---- the whole text, and the writer's answers
 pub run_text_spelled : (threads slots : ℕ) (thread kind : List ℕ) (sample : List ℤ) (schedule : List ℕ)
-    → ((ended (pair_line threads_word threads) [] ++ ended (pair_line slots_word slots) []) ++ ops_text thread kind sample) ++ steps_text schedule ≡ spelled threads slots thread kind sample schedule
+    → ended (pair_line threads_word threads) [] ++ (ended (pair_line slots_word slots) [] ++ (ops_text thread kind sample ++ steps_text schedule)) ≡ spelled threads slots thread kind sample schedule
 unfolding spelled
 run_text_spelled threads slots thread kind sample schedule =
     let a = pair_line threads_word threads in
     let b = pair_line slots_word slots in
-    let c = ops_text thread kind sample in
-    let d = steps_text schedule in
-    append_assoc (ended a [] ++ ended b []) c d ∙ append_assoc (ended a []) (ended b []) (c ++ d) ∙ ap (λ (t : List ℕ). ended a [] ++ t) (ended_then b (c ++ d)) ∙ ended_then a (ended b (c ++ d))
+    let rest = ops_text thread kind sample ++ steps_text schedule in
+    ap (λ (t : List ℕ). ended a [] ++ t) (ended_then b rest) ∙ ended_then a (ended b rest)
 
-module _ (threads slots : ℕ) (thread kind : List ℕ) (sample : List ℤ) (schedule : List ℕ) where
-  abbrev i : Input
-  i = input_of threads slots thread kind sample schedule
-
+module _ (i : Input) (pass : input_refusal i ≡ Ok tt) where
   abbrev whole : List ℕ
-  whole = spelled threads slots thread kind sample schedule
+  whole = spelled i.threads i.slots i.thread i.kind i.sample i.schedule
 
-  pub even_kinds : input_refusal i ≡ Pass → length kind ≡ length thread
-  even_kinds e = (input_passed i e).kinds
+  -- the place after the text is its length, since that is small
+  text_size : {p q : Page} → p.at ≡ 0 → Wrote p whole q → Fitting i.sample → length (run_text i) ≡ q.at
+  text_size z x f = rw (run_spelled i) (omega (arith, z, x.put.place, text_short (input_passed i pass) (all_fit i.sample f)))
 
-  pub even_samples : input_refusal i ≡ Pass → length sample ≡ length thread
-  even_samples e = (input_passed i e).samples
-
-  -- the place after a text put from 0 on is its length, since that is small
-  pub text_size : (b : ℕ) → b ≡ after 0 (length whole) → input_refusal i ≡ Pass → Fitting sample → length (run_text i) ≡ b
-  text_size b p e f = rw (run_spelled i) (omega (arith, p, text_short (input_passed i e) (all_fit sample f)))
-
-  pub text_stands : (text : List ℕ) → length (run_text i) ≤ length text → over (run_text i) text ≡ sets text 0 whole
-  text_stands text h = rw (run_spelled i) (sym (over_sets whole text (omega (arith, h, ap length (run_spelled i)))))
-
-  pub fit_refused : (n : ℕ) (x : Refusal) → input_refusal i ≡ Refused x → write_fit i n ≡ Refused x
+  pub written : {text new : List ℕ} {p q : Page} {n : ℕ} → q.at ≤ length text → p.text.now ≡ text → p.at ≡ 0 → Wrote p whole q → Fitting i.sample → n ≡ q.at → new ≡ q.text.now
+      → WriteSays i text (Ok n) new
   unfolding write_fit
-  fit_refused n x e = rw e
+  written {text} {new} {p} {q} {n} fits t z x f e g =
+      let size : length (run_text i) ≡ q.at = text_size z x f in
+      let b : leb (length (run_text i)) (length text) ≡ true = le-leb (length (run_text i)) (length text) (omega arith) in
+      let stands : over (run_text i) text ≡ sets text 0 whole = rw (run_spelled i) (sym (over_sets whole text (omega (arith, ap length (run_spelled i))))) in
+      record { answer = rw (pass, b, e, size); bytes = rw (pass, b) (g ∙ x.put.text ∙ (λ j. sets (t j) (z j) whole) ∙ sym stands) }
 
-  pub fit_no_room : (n : ℕ) → input_refusal i ≡ Pass → n < length (run_text i) → write_fit i n ≡ Refused Room
+  pub no_room : {text : List ℕ} {p q : Page} → length text < q.at → p.at ≡ 0 → Wrote p whole q → Fitting i.sample → WriteSays i text (Err Room) text
   unfolding write_fit
-  fit_no_room n e h = rw (e, lt-leb (length (run_text i)) n h)
+  no_room {text} short z x f =
+      let size : length (run_text i) ≡ _ = text_size z x f in
+      let b : leb (length (run_text i)) (length text) ≡ false = lt-leb (length (run_text i)) (length text) (omega arith) in
+      record { answer = rw (pass, b); bytes = rw (pass, b) }
 
-  pub fit_room : (n : ℕ) → input_refusal i ≡ Pass → length (run_text i) ≤ n → write_fit i n ≡ Pass
-  unfolding write_fit
-  fit_room n e h = rw (e, le-leb (length (run_text i)) n h)
-
--- each way out of `write_run`
-pub ruleset answers = (even_kinds, even_samples, text_size, text_stands, fit_refused, fit_no_room, fit_room)
+pub refused : {i : Input} {text : List ℕ} {made : Result ℕ Refusal} (r : Refusal) → input_refusal i ≡ Err r → made ≡ Err r → WriteSays i text made text
+unfolding write_fit
+refused r e same = record { answer = rw e same; bytes = rw e }

@@ -1,126 +1,91 @@
-// The writer of run files: from the lists of a run's input to the text.
+// The writer of run files: from a run's input to the text.
 #![tactic(auto)]
 
 ghost use Rattle.std.specs.Prelude.{◌≡◌, [], length};
-ghost use Rattle.limits.specs.Operations.{input_of};
-ghost use Rattle.numerals.specs.Places.{Put};
+ghost use Rattle.limits.specs.Inputs.{input_in};
+ghost use Rattle.limits.specs.Parts.{IsEven};
+ghost use Rattle.numerals.specs.Places.{Wrote};
 ghost use Rattle.runfile.specs.RunText.{Fitting};
 ghost use Rattle.runfile.specs.Spelling.{pair_line, put_line, ended, op_line, ops_text, steps_text, spelled};
 ghost use Rattle.runfile.specs.Answers.{WriteSays};
 
-use limits::{Fit, Refusal};
-use runfile::Written;
+use limits::{Input, Kind, Refusal, Table};
+use numerals::Page;
 
-// Writes the line of the word w and the number n from at on; gives the place after it.
-pub(crate) fn write_pair(out: &mut [u8], at: usize, w: &[u8], n: usize) -> usize
-    ensures { Put out.old at (ended (pair_line w.now n) []) result out.new }
+// Puts the line of the word w and the number n.
+fn write_pair(page: &mut Page, w: &[u8], n: usize)
+    ensures { Wrote page.old (ended (pair_line w.now n) []) page.new }
 {
-    let tab = numerals::put_bytes(out, at, w);
-    let number = numerals::put_bytes(out, tab, b"\t");
-    let end = numerals::put_number(out, number, n);
-    numerals::put_bytes(out, end, b"\n")
+    page.put_bytes(w);
+    page.put_byte(b'\t');
+    page.put_number(n);
+    page.put_byte(b'\n');
 }
 
-// Writes the line of a put from at on; gives the place after it.
-pub(crate) fn write_put(out: &mut [u8], at: usize, t: usize, x: i32) -> usize
-    ensures { Put out.old at (ended (put_line t x) []) result out.new }
+// Puts the line of a put.
+fn write_put(page: &mut Page, t: usize, x: i32)
+    ensures { Wrote page.old (ended (put_line t x) []) page.new }
 {
-    let number = numerals::put_bytes(out, at, b"put\t");
-    let tab = numerals::put_number(out, number, t);
-    let sample = numerals::put_bytes(out, tab, b"\t");
-    let end = numerals::put_sample(out, sample, x);
-    numerals::put_bytes(out, end, b"\n")
+    page.put_bytes(b"put\t");
+    page.put_number(t);
+    page.put_byte(b'\t');
+    page.put_sample(x);
+    page.put_byte(b'\n');
 }
 
-// Writes the line of an operation from at on; gives the place after it.
-pub(crate) fn write_op(out: &mut [u8], at: usize, t: u8, k: u8, x: i32) -> usize
-    ensures { Put out.old at (ended (op_line t k x) []) result out.new }
+// Puts the line of an operation.
+fn write_op(page: &mut Page, t: u8, k: u8, x: i32)
+    ensures { Wrote page.old (ended (op_line t k x) []) page.new }
 {
-    if k == 1 {
-        return write_put(out, at, t as usize, x);
+    match Kind::of(k) {
+        Kind::Put => write_put(page, t as usize, x),
+        Kind::Take => write_pair(page, b"take", t as usize),
     }
-    write_pair(out, at, b"take", t as usize)
 }
 
-// Writes the lines of the operations from at on; gives the place after them.
-pub(crate) fn write_ops(
-    out: &mut [u8],
-    at: usize,
-    thread: &[u8],
-    kind: &[u8],
-    sample: &[i32],
-) -> usize
-    requires { (length kind.now ≡ length thread.now) × (length sample.now ≡ length thread.now) }
-    ensures { Put out.old at (ops_text thread.now kind.now sample.now) result out.new × Fitting sample.now }
+// Puts the lines of the operations.
+fn write_ops(page: &mut Page, table: &Table)
+    requires { IsEven table.now }
+    ensures put { Wrote page.old (ops_text table.now.thread.now table.now.kind.now table.now.sample.now) page.new }
+    ensures fitting { Fitting table.now.sample.now }
 {
-    let n = thread.len();
-    let mut place = at;
-    let mut i: usize = 0;
-    while i < n {
-        place = write_op(out, place, thread[i], kind[i], sample[i]);
-        i += 1;
+    for o in 0..table.thread.len() {
+        write_op(page, table.thread[o], table.kind[o], table.sample[o]);
     }
-    place
 }
 
-// Writes the lines of the schedule from at on; gives the place after them.
-pub(crate) fn write_steps(out: &mut [u8], at: usize, schedule: &[u8]) -> usize
-    ensures { Put out.old at (steps_text schedule.now) result out.new }
+// Puts the lines of the schedule.
+fn write_steps(page: &mut Page, schedule: &[u8])
+    ensures { Wrote page.old (steps_text schedule.now) page.new }
 {
-    let n = schedule.len();
-    let mut place = at;
-    let mut i: usize = 0;
-    while i < n {
-        place = write_pair(out, place, b"step", schedule[i] as usize);
-        i += 1;
+    for thread in schedule {
+        write_pair(page, b"step", *thread as usize);
     }
-    place
 }
 
-// Writes the text of a run from the start of out on, as far as it reaches; gives the number of bytes that the text has.
-pub(crate) fn write_text(
-    out: &mut [u8],
-    threads: usize,
-    slots: usize,
-    thread: &[u8],
-    kind: &[u8],
-    sample: &[i32],
-    schedule: &[u8],
-) -> usize
-    requires { (length kind.now ≡ length thread.now) × (length sample.now ≡ length thread.now) }
-    ensures { Put out.old 0 (spelled threads slots thread.now kind.now sample.now schedule.now) result out.new × Fitting sample.now }
+// Puts the text of a run.
+fn write_text(page: &mut Page, input: &Input)
+    requires { IsEven input.now.table }
+    ensures put { Wrote page.old (spelled input.now.threads input.now.slots input.now.table.thread.now input.now.table.kind.now input.now.table.sample.now input.now.schedule.now) page.new }
+    ensures fitting { Fitting input.now.table.sample.now }
 {
-    let a = write_pair(out, 0, b"threads", threads);
-    let b = write_pair(out, a, b"slots", slots);
-    let c = write_ops(out, b, thread, kind, sample);
-    write_steps(out, c, schedule)
+    write_pair(page, b"threads", input.threads);
+    write_pair(page, b"slots", input.slots);
+    write_ops(page, &input.table);
+    write_steps(page, input.schedule);
 }
 
-// Writes a run file into the first bytes of the lent text. A refusal changes no byte.
-// The text is first written into no room at all, which gives the number of its bytes.
-#[tactic(auto, using(crate::proofs::WriteLaws::answers))]
-pub fn write_run(
-    threads: usize,
-    slots: usize,
-    thread: &[u8],
-    kind: &[u8],
-    sample: &[i32],
-    schedule: &[u8],
-    text: &mut [u8],
-) -> Written
-    ensures { WriteSays (input_of threads slots thread.now kind.now sample.now schedule.now) text.old result text.new }
+// Writes a run file into the first bytes of the lent text. A refusal changes no byte. The bytes are counted first, on a page with no room.
+pub fn write_run(input: &Input, text: &mut [u8]) -> Result<usize, Refusal>
+    ensures { WriteSays (input_in input.now) text.old result text.new }
 {
-    let fit = limits::check_input(threads, slots, thread, kind, sample, schedule);
-    match fit {
-        Fit::Refused(r) => Written::Refused(r),
-        Fit::Pass => {
-            let mut none = [0u8; 1];
-            let bytes = write_text(&mut none, threads, slots, thread, kind, sample, schedule);
-            if text.len() < bytes {
-                return Written::Refused(Refusal::Room);
-            }
-            write_text(text, threads, slots, thread, kind, sample, schedule);
-            Written::Bytes(bytes)
-        }
+    input.check()?;
+    let mut counted = Page::new(&mut []);
+    write_text(&mut counted, input);
+    if text.len() < counted.count() {
+        return Err(Refusal::Room);
     }
+    let mut page = Page::new(text);
+    write_text(&mut page, input);
+    Ok(page.count())
 }

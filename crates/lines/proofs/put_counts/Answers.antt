@@ -1,12 +1,13 @@
--- `lines::put_counts` meets its contract: six lines put one after the other. Assumes nothing.
-use native.Mathlib.Omega.{arith}
-use Rattle.lines.proofs.PutLaws.{put_six}
-use borrow.Author.Rules.{rules}
+-- Six lines put one after the other.
+use Rattle.std.proofs.Common.{rules}
+use Rattle.numerals.proofs.PrintLaws.{wrote_then}
 use Rattle.lines.proofs.LengthLaws.{counts_low}
 use Rattle.lines.proofs.put_counts.Goals as goal
 
-pub returns : goal.returns
-returns c = record {
-  put = put_six (omega arith) c.put_line-idle.ensures c.put_line-stores.ensures c.put_line-swaps.ensures c.put_line-finds.ensures c.put_line-fruitless.ensures c.put_line.ensures;
-  short = counts_low c.args.s (search (rules, c.well_formed.1.1.0));
-}
+pub returns-clause-put : goal.returns-clause-put
+returns-clause-put c =
+    wrote_then c.put_line.ensures (wrote_then c.put_line-2.ensures (wrote_then c.put_line-3.ensures
+    (wrote_then c.put_line-4.ensures (wrote_then c.put_line-5.ensures c.put_line-6.ensures))))
+
+pub returns-clause-short : goal.returns-clause-short
+returns-clause-short c = counts_low c.args.s (search (rules, c.well_formed.1.0))

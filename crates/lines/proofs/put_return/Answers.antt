@@ -1,24 +1,21 @@
--- `lines::put_return` meets its contract: a put's return has no sample, a take's has one. Assumes nothing.
-use mathlib.Core.Path.{ap, ◌∙◌}
-use mathlib.Core.Option.{some}
-use native.Mathlib.Omega.{arith}
-use mir.Syntax.{w32}
-use mir.ValLaws.{to_z-of_z}
-use lib.IntN.{ℤ}
-use Rattle.history.specs.History.{ret}
-use Rattle.numerals.proofs.PrintLaws.{put_then, put_as}
-use Rattle.lines.specs.Lines.{event_line}
-use Rattle.lines.proofs.PutLaws.{put_four}
-use Rattle.lines.proofs.LineLaws.{return_put, return_take}
+-- A put's return has no sample, a take's has one.
+use Rattle.std.proofs.Common.{ap, sym}
+use Rattle.limits.specs.declared.Kind.{Kind}
+use Rattle.numerals.proofs.PrintLaws.{wrote_then, wrote_as}
+use Rattle.numerals.proofs.SampleLaws.{wrote_sample}
+use Rattle.lines.specs.Twins.{return_by}
 use Rattle.lines.proofs.put_return.Goals as goal
-
-pub returns-then-k-eq1 : goal.returns-then-k-eq1
-returns-then-k-eq1 c =
-    let a = c.args in
-    put_as (return_put a.o a.k a.x c.if-k-eq1.true) (put_then (omega arith) c.put_word-number.ensures c.end_number.ensures)
+use Rattle.lines.proofs.put_return.Goals.{in-Take, in_default}
 
 pub returns : goal.returns
 returns c =
     let a = c.args in
-    put_as (ap (λ (z : ℤ). event_line (ret a.o (some z))) (to_z-of_z w32 a.x c.ranges.x) ∙ return_take a.o a.k a.x c.if-k-eq1.false)
-    (put_four (omega arith) c.put_word-number.ensures c.put_short-tab.ensures c.put_word-sample.ensures c.end_sample.ensures)
+    elim c.match-kind.branch [
+      | in-Take w ↦
+          wrote_as (ap (λ (k : Kind). return_by a.o k a.x) (sym w.in-Take.is))
+          (wrote_then c.put_bytes.ensures (wrote_then c.put_number.ensures
+          (wrote_then w.put_byte.ensures (wrote_then (wrote_sample a.x c.ranges.x w.put_sample.ensures) (rw w.page-is at c.put_byte-2.ensures)))))
+      | in_default w ↦
+          wrote_as (ap (λ (k : Kind). return_by a.o k a.x) (sym w.in_default.is))
+          (wrote_then c.put_bytes.ensures (wrote_then c.put_number.ensures (rw w.page-is at c.put_byte-2.ensures)))
+    ]

@@ -1,35 +1,56 @@
--- `listing::list_run` meets its contract: the run is refused for nothing but its input, and what is filled is the listing of what it says.
--- Assumes nothing.
-use lib.IntN.{pos}
-use Prim.Native.Nat.{ℕ}
-use lib.ListN.{replicate, length-replicate}
-use Rattle.listing.proofs.RunnerLaws.{Lent, list_refused, list_shown, list_ran}
-use borrow.Author.Rules.{rules}
+-- The run is refused for nothing but its input, and what is filled is the listing of what it says.
+use Rattle.std.proofs.Common.{rules, refl}
+use Rattle.listing.proofs.RunnerLaws.{list_refused, filled, list_ran}
 use Rattle.listing.proofs.list_run.Goals as goal
 
-lent-first : Lent (replicate 256 0) (replicate 256 (pos 0)) (replicate 128 0) (replicate 64 0) (replicate 64 (pos 0))
-lent-first = record {
-  codes = length-replicate {A = ℕ} 256 0;
-  values = length-replicate 256 (pos 0);
-  order = length-replicate {A = ℕ} 128 0;
-  marks = length-replicate {A = ℕ} 64 0;
-  held = length-replicate 64 (pos 0);
-}
+pub returns-in_err-ran : goal.returns-in_err-ran
+returns-in_err-ran c = list_refused c.args.text.now c.in_err-ran.ensures.says (search rules)
 
-pub fill-requires : goal.fill-requires
-fill-requires c =
-    let a = c.args in
-    let q = c.run_core-f in
-    list_shown a.threads a.slots a.thread.now a.kind.now a.sample.now a.schedule.now (replicate 256 0) (replicate 256 (pos 0)) (replicate 128 0) (replicate 64 0) (replicate 64 (pos 0)) lent-first q.new.codes q.new.values q.new.order q.new.marks q.new.held q.result q.ensures c.in-Ran.s c.in-Ran.is (record { codes = search rules; values = search rules; order = search rules; marks = search rules; held = search rules })
+pub slice_bounds-codes-end : goal.slice_bounds-codes-end
+slice_bounds-codes-end c = let f = filled c.in_ok-ran.ensures.says in search rules
 
-pub returns-in-Refused : goal.returns-in-Refused
-returns-in-Refused c =
-    let a = c.args in
-    let q = c.run_core-f in
-    list_refused a.threads a.slots a.thread.now a.kind.now a.sample.now a.schedule.now (replicate 256 0) (replicate 256 (pos 0)) (replicate 128 0) (replicate 64 0) (replicate 64 (pos 0)) lent-first q.new.codes q.new.values q.new.order q.new.marks q.new.held q.result q.ensures a.text.now c.in-Refused.r c.in-Refused.is
+pub slice_bounds-shown-end : goal.slice_bounds-shown-end
+slice_bounds-shown-end c = let f = filled c.in_ok-ran.ensures.says in search rules
 
-pub returns-in-Ran : goal.returns-in-Ran
-returns-in-Ran c =
-    let a = c.args in
-    let q = c.run_core-f in
-    list_ran a.threads a.slots a.thread.now a.kind.now a.sample.now a.schedule.now (replicate 256 0) (replicate 256 (pos 0)) (replicate 128 0) (replicate 64 0) (replicate 64 (pos 0)) lent-first q.new.codes q.new.values q.new.order q.new.marks q.new.held q.result q.ensures c.in-Ran.s c.in-Ran.is a.text.now c.fill.new.text c.fill.result c.fill.ensures.text_says c.fill.ensures.short
+pub slice_bounds-values-end : goal.slice_bounds-values-end
+slice_bounds-values-end c = let f = filled c.in_ok-ran.ensures.says in search rules
+
+pub slice_bounds-shown-end-2 : goal.slice_bounds-shown-end-2
+slice_bounds-shown-end-2 c = let f = filled c.in_ok-ran.ensures.says in search rules
+
+pub slice_bounds-order-end : goal.slice_bounds-order-end
+slice_bounds-order-end c = let f = filled c.in_ok-ran.ensures.says in search rules
+
+pub slice_bounds-shown-end-3 : goal.slice_bounds-shown-end-3
+slice_bounds-shown-end-3 c = let f = filled c.in_ok-ran.ensures.says in search rules
+
+pub slice_bounds-marks-end : goal.slice_bounds-marks-end
+slice_bounds-marks-end c = let f = filled c.in_ok-ran.ensures.says in search rules
+
+pub slice_bounds-shown-end-4 : goal.slice_bounds-shown-end-4
+slice_bounds-shown-end-4 c = let f = filled c.in_ok-ran.ensures.says in search rules
+
+pub slice_bounds-held-end : goal.slice_bounds-held-end
+slice_bounds-held-end c = let f = filled c.in_ok-ran.ensures.says in search rules
+
+pub slice_bounds-shown-end-5 : goal.slice_bounds-shown-end-5
+slice_bounds-shown-end-5 c = let f = filled c.in_ok-ran.ensures.says in search rules
+
+pub shared_ref_as_front-shown : goal.shared_ref_as_front-shown
+shared_ref_as_front-shown c = (filled c.in_ok-ran.ensures.says).threads_in
+
+pub returns : goal.returns
+returns c =
+    let f = filled c.in_ok-ran.ensures.says in
+    list_ran f.pass
+    (record {
+      summary = f.summary;
+      kind = refl;
+      codes = search rules;
+      values = search rules;
+      order = search rules;
+      marks = search rules;
+      held = search rules;
+      records = f.records;
+    })
+    c.fill.ensures.text_says c.fill.ensures.short

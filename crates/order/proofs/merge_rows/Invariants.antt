@@ -1,13 +1,9 @@
--- The takes below i stand merged, and the row's rest where it stood. Assumes nothing.
+-- The takes so far stand merged, and the row's rest where it stood. Assumes nothing.
 use mathlib.Core.List.{map}
-use Prim.Native.Nat.{◌-◌}
-use lib.ListN.{length}
+use lib.ListN.{length, drop}
 use Rattle.order.specs.Listing.{bare}
 use Rattle.order.proofs.WeavingLaws.{Woven}
 use Rattle.order.proofs.merge_rows.Given as goal
 
-abbrev pub invariant-loop-i : goal.invariant-loop-i
-invariant-loop-i l = Woven (map bare l.codes) l.takes l.puts l.initial.order l.e l.order l.k l.i l.out
-
-abbrev pub decreases-loop-i : goal.decreases-loop-i
-decreases-loop-i l = length l.takes - l.i
+abbrev pub invariant-loop-t : goal.invariant-loop-t
+invariant-loop-t l = Woven (map bare l.codes) l.rows.takes.now l.rows.puts.now (drop (length l.rows.takes.now) l.initial.order) l.order l.k (length l.yielded) l.out

@@ -1,11 +1,6 @@
--- `order::note_needs` meets its contract. The invariant: the codes below i are noted. Assumes nothing.
-use Prim.Native.Nat.{◌≤◌, ◌-◌}
-use lib.ListN.{length}
-use Rattle.order.specs.Weaving.{Noted}
+-- `order::note_needs` meets its contract. The invariant: the codes before this one are noted. Assumes nothing.
+use Rattle.order.proofs.NotingLaws.{Noted}
 use Rattle.order.proofs.note_needs.Given as goal
 
-abbrev pub invariant-loop-i : goal.invariant-loop-i
-invariant-loop-i l = (l.i ≤ length l.codes) × Noted l.codes l.ends l.needs l.reach l.i
-
-abbrev pub decreases-loop-i : goal.decreases-loop-i
-decreases-loop-i l = length l.codes - l.i
+abbrev pub invariant-loop-code : goal.invariant-loop-code
+invariant-loop-code l = Noted l.codes l.ends l.needs l.reach l.code-index

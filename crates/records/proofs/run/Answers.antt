@@ -1,22 +1,24 @@
--- `records::run` meets its contract: the core says what its records are, `put_records` stores the first of them, and `records_say` puts the two together. Assumes nothing.
-use Rattle.limits.specs.Operations.{input_of}
-use Rattle.run.specs.Run.{lists_of}
-use Rattle.records.proofs.SayLaws.{count_fits, records_say}
+-- The core says what its records are; the first of them are stored, and a refused run leaves the lent ones as they are.
+use Rattle.std.proofs.Common.{◌≡◌, rules}
+use Rattle.std.specs.Prelude.{Err}
+use Rattle.limits.specs.Inputs.{input_in}
+use Rattle.run.specs.Lent.{lists_in}
+use Rattle.records.proofs.SayLaws.{few_threads, says_refused, says_ran}
 use Rattle.records.proofs.run.Goals as goal
+
+pub returns-in_err-ran-clause-says : goal.returns-in_err-ran-clause-says
+returns-in_err-ran-clause-says c =
+    let a = c.args in
+    let told : c.from_residual.result ≡ Err c.in_err-ran.field-0.0 = search rules in
+    rw told (says_refused (input_in a.input.now) (lists_in a.lent.now) a.records.now (lists_in c.run_core.new.lent) c.in_err-ran.field-0.0 c.in_err-ran.ensures.says)
 
 pub put_records-requires : goal.put_records-requires
 put_records-requires c =
     let a = c.args in
-    let new = c.call_core-fin.new in
-    count_fits (input_of a.threads a.slots a.thread.now a.kind.now a.sample.now a.schedule.now)
-    (lists_of a.codes.now a.values.now a.order.now a.marks.now a.held.now) a.records.now
-    (lists_of new.codes new.values new.order new.marks new.held) c.call_core-fin.result c.call_core-fin.ensures c.count-n.result c.count-n.ensures
+    few_threads (input_in a.input.now) (lists_in a.lent.now) a.records.now (lists_in c.run_core.new.lent) c.in_ok-ran.ran c.in_ok-ran.ensures.says
 
-pub returns : goal.returns
-returns c =
+pub returns-clause-says : goal.returns-clause-says
+returns-clause-says c =
     let a = c.args in
-    let new = c.call_core-fin.new in
-    records_say (input_of a.threads a.slots a.thread.now a.kind.now a.sample.now a.schedule.now)
-    (lists_of a.codes.now a.values.now a.order.now a.marks.now a.held.now) a.records.now
-    (lists_of new.codes new.values new.order new.marks new.held) c.call_core-fin.result c.call_core-fin.ensures c.count-n.result c.count-n.ensures
-    c.put_records.new.records c.put_records.ensures c.told.result c.told.ensures
+    says_ran (input_in a.input.now) (lists_in a.lent.now) a.records.now (lists_in c.run_core.new.lent) c.in_ok-ran.ran c.in_ok-ran.ensures.says
+    c.put_records.new.records c.put_records.ensures

@@ -1,36 +1,37 @@
--- `run_core` meets its contract: refused, nothing changed; played, the bench after the schedule is shown. Assumes nothing.
-use mathlib.Core.Path.{◌≡◌, sym, ◌∙◌}
-use lib.ListN.{length, replicate}
-use Rattle.stepping.specs.Twins.{play_fit}
+-- Refused, nothing changed; played, the bench after the schedule is shown.
+use Rattle.std.proofs.Common.{◌≡◌, rules}
+use Rattle.std.specs.Prelude.{Ok, Err}
+use Rattle.limits.specs.Inputs.{input_in}
+use Rattle.stepping.specs.Twins.{played, play_twin}
+use Rattle.run.specs.Lent.{lists_in}
 use Rattle.run.specs.FinalTwin.{rest_room}
-use Rattle.run.proofs.CoreLaws.{concludes, says_refused, says_ran}
+use Rattle.run.proofs.CoreLaws.{says_refused, concludes, says_ran}
 use Rattle.run.proofs.run_core.Goals as goal
+
+pub returns-in_err-state-clause-says : goal.returns-in_err-state-clause-says
+returns-in_err-state-clause-says c =
+    let a = c.args in
+    let l = a.lent.now in
+    let i = input_in a.input.now in
+    let e = c.in_err-state.ensures in
+    let ran : played (Err c.in_err-state.field-0.0) c.play.new.codes c.play.new.values ≡ play_twin i (rest_room i (lists_in l) a.room) l.codes.now l.values.now = rw c.is_roomy-roomy.ensures at e in
+    let told : c.from_residual.result ≡ Err c.in_err-state.field-0.0 = search rules in
+    rw told (says_refused i (lists_in l) a.room c.in_err-state.field-0.0 c.play.new.codes c.play.new.values ran)
 
 pub conclude-requires : goal.conclude-requires
 conclude-requires c =
     let a = c.args in
-    let roomy = rest_room a.threads a.slots (length a.thread.now) (length a.order.now) (length a.marks.now) (length a.held.now) a.room in
-    let q = c.play-p in
-    let e : q.result.fit ≡ play_fit a.threads a.slots a.thread.now a.kind.now a.sample.now a.schedule.now roomy a.codes.now a.values.now = rw c.is_roomy-roomy.ensures at q.ensures.fit in
-    let ran = rw c.is_roomy-roomy.ensures at q.ensures.world_after in
-    concludes a.threads a.slots a.thread.now a.kind.now a.sample.now a.schedule.now a.room a.codes.now a.values.now a.order.now a.marks.now a.held.now (sym e ∙ c.in-Pass.is) q.result.state q.new.codes q.new.values q.new.takes q.new.puts ran
+    let l = a.lent.now in
+    let i = input_in a.input.now in
+    let e = c.in_ok-state.ensures in
+    let ran : played (Ok c.in_ok-state.state) c.play.new.codes c.play.new.values ≡ play_twin i (rest_room i (lists_in l) a.room) l.codes.now l.values.now = rw c.is_roomy-roomy.ensures at e in
+    concludes i (lists_in l) a.room c.in_ok-state.state c.play.new.codes c.play.new.values ran
 
-pub returns-in-Refused : goal.returns-in-Refused
-returns-in-Refused c =
+pub returns-clause-says : goal.returns-clause-says
+returns-clause-says c =
     let a = c.args in
-    let roomy = rest_room a.threads a.slots (length a.thread.now) (length a.order.now) (length a.marks.now) (length a.held.now) a.room in
-    let q = c.play-p in
-    let e : q.result.fit ≡ play_fit a.threads a.slots a.thread.now a.kind.now a.sample.now a.schedule.now roomy a.codes.now a.values.now = rw c.is_roomy-roomy.ensures at q.ensures.fit in
-    let ran = rw c.is_roomy-roomy.ensures at q.ensures.world_after in
-    rw c.no_records-records.ensures (says_refused a.threads a.slots a.thread.now a.kind.now a.sample.now a.schedule.now a.room a.codes.now a.values.now a.order.now a.marks.now a.held.now q.result.state q.new.codes q.new.values (replicate 64 0) (replicate 64 0) q.new.takes q.new.puts c.in-Refused.r (sym e ∙ c.in-Refused.is) ran)
-
-pub returns-in-Pass : goal.returns-in-Pass
-returns-in-Pass c =
-    let a = c.args in
-    let roomy = rest_room a.threads a.slots (length a.thread.now) (length a.order.now) (length a.marks.now) (length a.held.now) a.room in
-    let q = c.play-p in
-    let e : q.result.fit ≡ play_fit a.threads a.slots a.thread.now a.kind.now a.sample.now a.schedule.now roomy a.codes.now a.values.now = rw c.is_roomy-roomy.ensures at q.ensures.fit in
-    let ran = rw c.is_roomy-roomy.ensures at q.ensures.world_after in
-    let k = c.conclude in
-    says_ran a.threads a.slots a.thread.now a.kind.now a.sample.now a.schedule.now a.room a.codes.now a.values.now a.order.now a.marks.now a.held.now (sym e ∙ c.in-Pass.is) q.result.state q.new.codes q.new.values q.new.takes q.new.puts ran
-    _ _ _ k.result k.ensures.value k.ensures.order_after k.ensures.marks_after k.ensures.held_after
+    let l = a.lent.now in
+    let i = input_in a.input.now in
+    let e = c.in_ok-state.ensures in
+    let ran : played (Ok c.in_ok-state.state) c.play.new.codes c.play.new.values ≡ play_twin i (rest_room i (lists_in l) a.room) l.codes.now l.values.now = rw c.is_roomy-roomy.ensures at e in
+    says_ran i (lists_in l) a.room c.in_ok-state.state c.play.new.codes c.play.new.values ran (lists_in c.conclude.new.self) c.conclude.result c.conclude.ensures.concluded

@@ -1,11 +1,6 @@
 -- Four texts put one after another are the line.
-use Rattle.std.proofs.Common.{arith, ◌≤◌, length}
-use Rattle.numerals.proofs.PrintLaws.{put_then, put_as}
-use Rattle.writer.proofs.WriteLaws.{pair_text}
+use Rattle.numerals.proofs.PrintLaws.{wrote_then}
 use Rattle.writer.proofs.write_pair.Goals as goal
 
 pub returns : goal.returns
-returns c =
-    let a = c.args in
-    let l : length a.out.now ≤ 18446744073709551615 = omega arith in
-    put_as (pair_text a.w.now a.n) (put_then l (put_then l (put_then l c.put_bytes-tab.ensures c.put_bytes-number.ensures) c.put_number-end.ensures) c.put_bytes.ensures)
+returns c = wrote_then (wrote_then c.put_bytes.ensures (wrote_then c.put_byte.ensures c.put_number.ensures)) c.put_byte-2.ensures

@@ -1,58 +1,32 @@
--- `show_records` meets its contract. The invariant: the entries passed are what the records' phases show. Assumes nothing.
-use mathlib.Core.Path.{◌≡◌, refl, ap, ◌∙◌}
-use mathlib.Core.List.{List}
-use Prim.Native.Nat.{ℕ, ◌+◌, ◌<◌}
+-- `show_records` meets its contract: one turn writes what one record more shows. Assumes nothing.
+use mathlib.Core.Path.{◌≡◌, ap, ◌∙◌}
+use mathlib.Core.List.{List, map, append_assoc}
+use Prim.Native.Nat.{ℕ, suc, ◌+◌, ◌<◌, ◌≤◌}
 use native.Mathlib.Omega.{arith}
 use lib.IntN.{ℤ, pos}
-use lib.ListN.{length, set, length-set}
+use lib.ListN.{length, set, get_or, take, drop, length-map}
+use lib.Seq.{length-take-le, drop-cons, set_at}
 use borrow.Author.Rules.{rules}
-use Rattle.run.specs.FinalTwin.{tab}
+use Rattle.std.proofs.lemmas.List.{map_more}
+use Rattle.limits.specs.Lists.{over}
 use Rattle.limits.proofs.LimitsLaws.{back32}
-use Rattle.run.proofs.FinalLaws.{tab_next}
-use Rattle.outside.specs.RecordTwin.{Begun}
+use Rattle.run.specs.Core.{rest_record}
 use Rattle.outside.proofs.records.show_records.Goals as goal
 
-begun_none : {A : Type 0} (f : ℕ → A) (l : List A) → Begun f l 0 l
-unfolding tab
-begun_none f l = record { size = refl; entries = refl }
-
-begun_next : {A : Type 0} (f : ℕ → A) (l : List A) (n : ℕ) (m : List A) (x d : A) → Begun f l n m → x ≡ f n → n < length l → Begun f l (n + 1) (set m n x)
-begun_next {A} f l n m x d b e lt =
-    record {
-      size = simp length-set b.size;
-      entries = ap (set m n) e ∙ ap (λ (k : List A). set k n (f n)) b.entries ∙ tab_next f l d n lt;
-    }
-
-pub loop-i-init : goal.loop-i-init
-loop-i-init c = (search rules, record { phases = begun_none _ _; numbers = begun_none _ _; ends = begun_none _ _ })
-
-pub bounds-records-i : goal.bounds-records-i
-bounds-records-i c = omega (arith, c.requires.most)
-
-pub bounds-phases-i : goal.bounds-phases-i
-bounds-phases-i c = omega (arith, c.requires.phases)
-
-pub bounds-numbers-i : goal.bounds-numbers-i
-bounds-numbers-i c = omega (arith, c.requires.numbers)
-
-pub bounds-ends-i : goal.bounds-ends-i
-bounds-ends-i c = omega (arith, c.requires.ends)
+over_more : {A B : Type 0} (f : A → B) (xs : List A) (l now : List B) (i : ℕ) (z : A) (x d : B) → i < length xs → length xs ≤ length l
+    → now ≡ over (map f (take i xs)) l → x ≡ f (get_or xs i z) → set now i x ≡ over (map f (take (i + 1) xs)) l
+over_more f xs l now i z x d lt room e y =
+    let n : length (map f (take i xs)) ≡ i = length-map (take i xs) f ∙ length-take-le i xs (omega arith) in
+    let m : length (map f (take (i + 1) xs)) ≡ suc i = length-map (take (i + 1) xs) f ∙ length-take-le (i + 1) xs (omega arith) ∙ omega arith in
+    rw (e, n, m, map_more f xs i z lt, drop-cons l i d (omega arith), append_assoc, y) (set_at (map f (take i xs)) (get_or l i d) (drop (suc i) l) (f (get_or xs i z)) i n)
 
 pub loop-i-preserved : goal.loop-i-preserved
 loop-i-preserved c =
-    let pre = c.requires in
-    let l = c.loop-i in
-    let tell = c.tell-told in
-    let told = tell.ensures in (
-      omega arith,
-      record {
-        phases = begun_next _ _ l.i _ _ 0 l.invariant.1.phases (ap (λ (x : ℕ × ℤ × ℕ). x.0) told) (omega (arith, pre.phases));
-        numbers = begun_next _ _ l.i _ _ (pos 0) l.invariant.1.numbers (back32 tell.result.1 (search rules) ∙ ap (λ (x : ℕ × ℤ × ℕ). x.1) told) (omega (arith, pre.numbers));
-        ends = begun_next _ _ l.i _ _ 0 l.invariant.1.ends (ap (λ (x : ℕ × ℤ × ℕ). x.2) told) (omega (arith, pre.ends));
-      },
-    )
-
-pub returns : goal.returns
-returns c =
-    let z : c.loop-i.i ≡ c.args.n = omega arith in
-    rw z at c.loop-i.invariant.1
+    let rs = c.args.records.now in
+    let told = c.tell.ensures in
+    let h = c.loop-i in
+    record {
+      phases = over_more _ rs _ _ h.i rest_record _ 0 (omega arith) c.requires.phase_room h.invariant.phases (ap (λ (x : ℕ × ℤ × ℕ). x.0) told);
+      numbers = over_more _ rs _ _ h.i rest_record _ (pos 0) (omega arith) c.requires.number_room h.invariant.numbers (back32 c.tell.result.1 (search rules) ∙ ap (λ (x : ℕ × ℤ × ℕ). x.1) told);
+      ends = over_more _ rs _ _ h.i rest_record _ 0 (omega arith) c.requires.end_room h.invariant.ends (ap (λ (x : ℕ × ℤ × ℕ). x.2) told);
+    }

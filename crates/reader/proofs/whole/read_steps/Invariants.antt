@@ -7,10 +7,9 @@ abbrev pub invariant-loop-a : goal.invariant-loop-a
 invariant-loop-a l =
     record {
       in_range : l.a ≤ length l.text;
-      lines : l.k ≤ l.a + 1;
-      few : l.count ≤ l.a;
-      left : Left l.text l.from l.first l.fn.out l.out l.a l.k l.count;
+      lines : l.first + l.count ≤ l.a + 1;
+      left : Left l.text l.from l.first l.fn.out l.out l.a (l.first + l.count) l.count;
     }
 
 abbrev pub decreases-loop-a : goal.decreases-loop-a
-decreases-loop-a l = l.n - l.a
+decreases-loop-a l = length l.text - l.a
