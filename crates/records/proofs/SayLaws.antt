@@ -1,8 +1,8 @@
 -- From what the core says of its sixteen records by value to what the run says of the lent ones. Assumes nothing.
 --   fits           what an accepted run has passed: few threads, room for their records, a record for each
 --   few_threads    no more records are stored than the core has or the caller has room for
---   says_refused   a refused run leaves the lent records as they are
 --   says_ran       the first of the core's records are those of the threads, so storing them is all that was missing
+--   says_refused   a refused run leaves the lent records as they are
 use Rattle.std.specs.Prelude.{Err, Ok}
 use Rattle.limits.specs.Refusals.{Fit}
 use Rattle.limits.specs.declared.Refusal.{Refusal}
@@ -48,11 +48,6 @@ module _ (i : Input) (l : Lists) (rs : List ThreadRecord) where
 
   -- ---- what the core says, and then the run
 
-  pub says_refused : (m : Lists) (r : Refusal) → RunSays i l m (length rs) (Err r) → RecordsSay i l m rs rs (Err r)
-  says_refused m r core =
-      let e : fit ≡ Err r = ran_fit (core_of i) fit core.answer in
-      record { answer = rw e; lists = core.lists; records = rw e }
-
   module _ (m : Lists) (ran : Ran) (core : RunSays i l m (length rs) (Ok ran)) where
     pass : fit ≡ Ok tt
     pass = ran_fit (core_of i) fit core.answer
@@ -74,3 +69,8 @@ module _ (i : Input) (l : Lists) (rs : List ThreadRecord) where
           lists = core.lists;
           records = rw (stored, pass, shown, take_at (records B) (drop i.threads (replicate 16 rest_record)) i.threads size, size);
         }
+
+  pub says_refused : (m : Lists) (r : Refusal) → RunSays i l m (length rs) (Err r) → RecordsSay i l m rs rs (Err r)
+  says_refused m r core =
+      let e : fit ≡ Err r = ran_fit (core_of i) fit core.answer in
+      record { answer = rw e; lists = core.lists; records = rw e }
