@@ -1,13 +1,11 @@
 -- The judge's answer: one law for each way out; that verdict 0 is given exactly to linearizations; that the answer is only one. Assumes nothing.
 use Rattle.std.proofs.Common.{◌≡◌, ◌≢◌, true, false, cond, ℕ, ℤ, List, [], map, length, Result, Ok, Err, refl, sym, ap, ◌∙◌}
-use Rattle.std.proofs.Math.Bool.{and-false}
-use borrow.Author.Tests.{ne_eqb}
 use lib.ListN.{length-map}
 use Rattle.limits.specs.declared.Refusal.{Refusal}
 use Rattle.limits.specs.declared.Refusal.TheVariants.{Threads, Lengths}
 use Rattle.limits.specs.Lists.{All}
 use Rattle.limits.specs.Operations.{table_of}
-use Rattle.limits.specs.Refusals.{Fit, by_fit, and_then, within, together}
+use Rattle.limits.specs.Refusals.{Fit, by_fit, and_then, within}
 use Rattle.limits.specs.Parts.{table_refusal}
 use Rattle.limits.proofs.FitLaws.{in_numbers}
 use Rattle.history.specs.History.{Event as Happening, code_of, beside, events}
@@ -25,7 +23,7 @@ use Rattle.judge.specs.declared.History.{History}
 use Rattle.judge.specs.declared.marks.Marks.{Marks}
 use Rattle.judge.proofs.ConditionLaws.{found}
 use Rattle.limits.specs.declared.Table.{Table}
-use Rattle.judge.proofs.RefusalLaws.{table_fits, chain_together, chain_pass, event_passes, passes_stand}
+use Rattle.judge.proofs.RefusalLaws.{table_fits, chain_threads, chain_lengths, chain_together, chain_pass, event_passes, passes_stand}
 
 -- the refusal; the verdict, if there is none
 abbrev pub or_else : Fit → Verdict → Result Verdict Refusal
@@ -47,12 +45,12 @@ module _ (threads : ℕ) (thread kind : List ℕ) (sample : List ℤ) (codes : L
   -- ---- the ways out
 
   pub judged_threads : within 1 16 threads ≡ false → answer ≡ Err Threads
-  unfolding judged judge_refusal
-  judged_threads e = rw e
+  unfolding judged
+  judged_threads e = rw (chain_threads threads thread kind sample codes samples e)
 
   pub judged_lengths : within 1 16 threads ≡ true → length samples ≢ length codes → answer ≡ Err Lengths
-  unfolding judged judge_refusal
-  judged_lengths e ne = rw (e, ne_eqb (length samples) (length codes) ne, and-false (together thread kind sample))
+  unfolding judged
+  judged_lengths e ne = rw (chain_lengths threads thread kind sample codes samples e ne)
 
   pub judged_apart : length samples ≢ length codes → answer ≡ cond (within 1 16 threads) (Err Lengths) (Err Threads)
   judged_apart ne = elim (within 1 16 threads) as (λ b. within 1 16 threads ≡ b → answer ≡ cond b (Err Lengths) (Err Threads)) [ true ↦ λ w. judged_lengths w ne | false ↦ judged_threads ] refl

@@ -1,8 +1,8 @@
 -- Laws of the judge's refusals: the lowest position of an event that cannot stand, and the chain of tests. Assumes nothing.
-use Rattle.std.proofs.Common.{◌≡◌, Bool, true, false, ◌&&◌, eqb, leb, ℕ, ◌<◌, ℤ, List, length, Option, Some, None, Ok, Err, refl, sym}
-use Rattle.std.proofs.Math.Bool.{and-true}
+use Rattle.std.proofs.Common.{◌≡◌, ◌≢◌, Bool, true, false, ◌&&◌, eqb, leb, ℕ, ◌<◌, ℤ, List, length, Option, Some, None, Ok, Err, refl, sym}
+use Rattle.std.proofs.Math.Bool.{and-true, and-false}
 use Rattle.std.proofs.lemmas.Bool.{false≢true}
-use borrow.Author.Tests.{eqb-true, eq-eqb, leb-true}
+use borrow.Author.Tests.{eqb-true, eq-eqb, ne_eqb, leb-true}
 use Rattle.limits.specs.declared.Refusal.{Refusal}
 use Rattle.limits.specs.declared.Refusal.TheVariants.{Threads, Lengths, Operations, Operation, Event}
 use Rattle.limits.specs.declared.Table.{Table}
@@ -81,6 +81,15 @@ table_fits threads t e =
     record { few = leb-true (length t.thread.now) 128 c.0; even = (lengths.0, lengths.1) }
 
 module _ (threads : ℕ) (thread kind : List ℕ) (sample : List ℤ) (cs : List ℕ) (xs : List ℤ) where
+  -- the ways out
+  pub chain_threads : within 1 16 threads ≡ false → judge_refusal threads thread kind sample cs xs ≡ Err Threads
+  unfolding judge_refusal
+  chain_threads e = rw e
+
+  pub chain_lengths : within 1 16 threads ≡ true → length xs ≢ length cs → judge_refusal threads thread kind sample cs xs ≡ Err Lengths
+  unfolding judge_refusal
+  chain_lengths e ne = rw (e, ne_eqb (length xs) (length cs) ne, and-false (together thread kind sample))
+
   -- where the lists of the history go together, the table's tests come first, then the events
   pub chain_together : length xs ≡ length cs → judge_refusal threads thread kind sample cs xs ≡ and_then (table_refusal threads thread kind sample) (event_refusal thread kind sample cs xs)
   unfolding judge_refusal table_refusal event_refusal
