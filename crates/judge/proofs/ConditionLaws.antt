@@ -78,14 +78,14 @@ module _ (t : Operations) (fit : Fitting t) (given : History) (together : length
   same_21 = (λ f. all_of_get_or (Called h) l 0 (λ j lt. mark_called n (get_or l j 0) (f j lt)), λ q j lt. called_mark n (get_or l j 0) (all_get_or (Called h) l 0 q j lt))
 
   -- a returned operation is one of the table
-  returned_small : (o : ℕ) → Returned h o → o < 128
+  returned_small : (o : ℕ) → Returned h o → o < T.size
   returned_small o r =
       let a = returned_at h o r in
       let c = read.of (Return o) a.0 (n.to (Return o) a.0 a.1 a.2) in
       let s = rw (odd_return T o (get_or given.codes.now a.0 0) (get_or given.samples.now a.0 (pos 0)) c.1) at (read.stand a.0 c.0) in
-      omega (arith, s.0, fit.few)
+      s.0
 
-  same_22 : Free22 m l ↔ Not22 h l
+  same_22 : Free22 T.size m l ↔ Not22 h l
   same_22 = (
     λ f o r. let a = f o (returned_small o r) (returned_mark n o r) in rw a.2 at (mem_get_or l 0 a.0 a.1),
     λ q o lt ne. mem_among l o (q o (mark_returned n o ne)),

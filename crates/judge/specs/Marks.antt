@@ -97,9 +97,9 @@ Free20 size l = (j : ℕ) → j < length l → (get_or l j 0 < size) × (¬ Amon
 abbrev pub Free21 : Marks → List ℕ → Type 0
 Free21 m l = (j : ℕ) → j < length l → called m (get_or l j 0) ≢ None
 
--- 22: each operation that has returned is listed
-abbrev pub Free22 : Marks → List ℕ → Type 0
-Free22 m l = (o : ℕ) → o < 128 → returned m o ≢ None → Among l (length l) o
+-- 22: each operation of the table that has returned is listed
+abbrev pub Free22 : ℕ → Marks → List ℕ → Type 0
+Free22 size m l = (o : ℕ) → o < size → returned m o ≢ None → Among l (length l) o
 
 -- a has returned before b was called
 unfoldable pub Earlier : Marks → ℕ → ℕ → Type 0
@@ -121,7 +121,7 @@ PlaysOn t h m q l = Plays (table_in t).kind (table_in t).sample (Gets h m) (λ r
 abbrev pub Finds : Operations → History → Marks → List ℕ → Verdict → Type 0
 Finds t h m l NoOperation = ¬ Free20 (length t.thread.now) l
 Finds t h m l Uncalled = Free20 (length t.thread.now) l × (¬ Free21 m l)
-Finds t h m l Missing = Free20 (length t.thread.now) l × Free21 m l × (¬ Free22 m l)
-Finds t h m l Turned = Free20 (length t.thread.now) l × Free21 m l × Free22 m l × (¬ Free23 m l)
-Finds t h m l Unplayable = Free20 (length t.thread.now) l × Free21 m l × Free22 m l × Free23 m l × (¬ PlaysOn t h m [] l)
-Finds t h m l Linear = Free20 (length t.thread.now) l × Free21 m l × Free22 m l × Free23 m l × PlaysOn t h m [] l
+Finds t h m l Missing = Free20 (length t.thread.now) l × Free21 m l × (¬ Free22 (length t.thread.now) m l)
+Finds t h m l Turned = Free20 (length t.thread.now) l × Free21 m l × Free22 (length t.thread.now) m l × (¬ Free23 m l)
+Finds t h m l Unplayable = Free20 (length t.thread.now) l × Free21 m l × Free22 (length t.thread.now) m l × Free23 m l × (¬ PlaysOn t h m [] l)
+Finds t h m l Linear = Free20 (length t.thread.now) l × Free21 m l × Free22 (length t.thread.now) m l × Free23 m l × PlaysOn t h m [] l

@@ -23,11 +23,11 @@ pub(crate) fn are_called(marks: &Marks, order: &[u8]) -> bool
     order.iter().all(|o| marks.find_call(*o as usize).is_some())
 }
 
-// 22: every returned operation is listed. A table has at most 128.
-pub(crate) fn are_listed(marks: &Marks, order: &[u8]) -> bool
-    ensures { IsTrue result ↔ Free22 marks.now order.now }
+// 22: every returned operation of the table is listed.
+pub(crate) fn are_listed(size: u8, marks: &Marks, order: &[u8]) -> bool
+    ensures { IsTrue result ↔ Free22 size marks.now order.now }
 {
-    for o in 0..128 {
+    for o in 0..size {
         if marks.find_return(o as usize).is_some() && !order.contains(&o) {
             return false;
         }

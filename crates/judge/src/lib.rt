@@ -33,7 +33,7 @@ fn find_fault(table: &Table, history: &History, marks: &Marks, order: &[u8]) -> 
     if !conditions::are_called(marks, order) {
         return Verdict::Uncalled;
     }
-    if !conditions::are_listed(marks, order) {
+    if !conditions::are_listed(table.thread.len() as u8, marks, order) {
         return Verdict::Missing;
     }
     if !conditions::are_in_turn(marks, order) {

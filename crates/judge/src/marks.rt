@@ -6,11 +6,11 @@ ghost use Rattle.judge.specs.Marks.{place_of, called, returned, Earlier};
 
 use history::Event;
 
-// Where each operation was called and where it returned, as far as a history was read.
+// Where each operation was called and where it returned, as far as a history was read. No more than 256 events can stand, so a byte holds a place.
 #[derive(Drop)]
 pub(crate) struct Marks {
-    calls: [Option<usize>; 128],
-    returns: [Option<usize>; 128],
+    calls: [Option<u8>; 128],
+    returns: [Option<u8>; 128],
 }
 
 impl Marks {
@@ -25,7 +25,7 @@ impl Marks {
     }
 
     // Notes where an event of an operation below 128 stands.
-    pub(crate) fn note(&mut self, event: Event, place: usize)
+    pub(crate) fn note(&mut self, event: Event, place: u8)
         requires { event_code event < 256 }
         ensures { (e : Event) → place_of self.new e ≡ cond (event_code e == event_code event) (Some place) (place_of self.old e) }
     {
@@ -36,14 +36,14 @@ impl Marks {
     }
 
     // Where o was called, if it was.
-    pub(crate) fn find_call(&self, o: usize) -> Option<usize>
+    pub(crate) fn find_call(&self, o: usize) -> Option<u8>
         ensures { result ≡ called self.now o }
     {
         *self.calls.get(o)?
     }
 
     // Where o returned, if it has.
-    pub(crate) fn find_return(&self, o: usize) -> Option<usize>
+    pub(crate) fn find_return(&self, o: usize) -> Option<u8>
         ensures { result ≡ returned self.now o }
     {
         *self.returns.get(o)?

@@ -11,9 +11,7 @@ use limits::{Kind, Table};
 fn may_get(history: &History, marks: &Marks, o: usize, x: i32) -> bool
     ensures { IsTrue result ↔ Gets history.now marks.now o x }
 {
-    marks
-        .find_return(o)
-        .is_none_or(|i| history.samples.get(i).is_none_or(|got| *got == x))
+    marks.find_return(o).is_none_or(|i| history.samples.get(i as usize).is_none_or(|got| *got == x))
 }
 
 // 24: every take meets a sample, and every returned take the one that it returned.

@@ -63,7 +63,7 @@ pub(crate) fn read_history(table: &Table, history: &History) -> Result<Marks, Re
         if !can_stand(table, &marks, event, history.samples[i]) {
             return Err(Refusal::Event(i));
         }
-        marks.note(event, i);
+        marks.note(event, i as u8);
     }
     Ok(marks)
 }
