@@ -2,6 +2,7 @@
 --   Within n c      no count of c is above n, and the reservation count is at most 64
 --   called, reserved, stored, given, begun, passed, swapped   what a phase's step makes of the state, and what the thread does next
 --   acted           the step of a thread, by what it is doing
+--   state_in, state_with   the state of parts that were taken apart, and of the part that moves and its finds
 --   World           a state, with the lists of events
 --   step_world, run_world  one step, and a schedule's steps
 --   play_twin       the whole of `play`
@@ -15,12 +16,24 @@ use Rattle.stepping.specs.declared.Doing.TheVariants.{Rest, CalledPut, Reserved,
 use Rattle.stepping.specs.declared.Counts.{Counts}
 use Rattle.stepping.specs.declared.Events.{Events}
 use Rattle.stepping.specs.declared.State.{State}
+use Rattle.stepping.specs.declared.Moving.{Moving}
+use Rattle.stepping.specs.declared.Finds.{Finds}
+use Rattle.stepping.specs.declared.Parts.{Parts}
 use Rattle.stepping.specs.PlanTwin.{plan_from}
 
 -- the lists lent for events are the same ones still
 pub record SameLists (e e' : Events) : Type 0 where
   pub codes : e'.codes.ghost_name ≡ e.codes.ghost_name
   pub values : e'.values.ghost_name ≡ e.values.ghost_name
+
+-- the parts of a state are the same ones still
+pub record SameParts (p p' : Parts) : Type 0 where
+  pub threads : p'.threads.ghost_name ≡ p.threads.ghost_name
+  pub counts : p'.counts.ghost_name ≡ p.counts.ghost_name
+  pub marks : p'.marks.ghost_name ≡ p.marks.ghost_name
+  pub owners : p'.owners.ghost_name ≡ p.owners.ghost_name
+  pub takes : p'.takes.ghost_name ≡ p.takes.ghost_name
+  pub puts : p'.puts.ghost_name ≡ p.puts.ghost_name
 
 pub record Within (n : ℕ) (c : Counts) : Type 0 where
   pub back : c.back ≤ 64
@@ -37,6 +50,14 @@ pub record Moved : Type 0 where
   pub state : State
   pub doing : Doing
 
+-- the state that was taken apart
+abbrev pub state_in : Parts → State
+state_in p = record { threads = p.threads.now; counts = p.counts.now; marks = p.marks.now; owners = p.owners.now; takes = p.takes.now; puts = p.puts.now }
+
+-- the state of its two parts
+abbrev pub state_with : Moving → Finds → State
+state_with m f = record { threads = m.threads; counts = m.counts; marks = m.marks; owners = m.owners; takes = f.takes; puts = f.puts }
+
 abbrev pub moved_of : State → Doing → Moved
 moved_of s d = record { state = s; doing = d }
 
@@ -47,8 +68,11 @@ pub record World : Type 0 where
   pub codes : List ℕ
   pub values : List ℤ
 
-abbrev pub world_in : State → Events → World
-world_in s e = record { state = s; codes = e.codes.now; values = e.values.now }
+abbrev pub world_in : Parts → Events → World
+world_in p e = record { state = state_in p; codes = e.codes.now; values = e.values.now }
+
+abbrev pub world_with : Moving → Finds → Events → World
+world_with m f e = record { state = state_with m f; codes = e.codes.now; values = e.values.now }
 
 pub record Turn : Type 0 where
   pub world : World
@@ -148,6 +172,9 @@ run_world kind sample next w [] = w
 run_world kind sample next w (t ∷ schedule) = run_world kind sample next (step_world kind sample next w t) schedule
 
 -- ---- the whole
+
+abbrev pub no_finds : Finds
+no_finds = record { takes = replicate 64 0; puts = replicate 64 0 }
 
 unfoldable pub start_state : List (Option ℕ) → State
 start_state first =

@@ -1,16 +1,17 @@
 // Phases 0, 3 and 6: a thread calls its next operation or returns from one, each with an event.
 ghost use Rattle.std.specs.Prelude.{◌≡◌, ◌+◌, ◌*◌};
-ghost use Rattle.stepping.specs.Twins.{Within, SameLists, world_in, noted, turn_of, called, given};
+ghost use Rattle.stepping.specs.Twins.{Within, SameParts, SameLists, world_in, noted, turn_of, called, given};
 
 use crate::cells::{get_at, set_at};
 use crate::plan::Script;
-use crate::{Doing, Events, State};
+use crate::{Doing, Events, Parts};
 use limits::Kind;
 
-impl State {
+impl Parts<'_> {
     // Writes an event's code, and the sample beside it.
     fn note(&mut self, code: u16, x: i32, events: &mut Events)
-        requires { Within 4096 self.old.counts }
+        requires { Within 4096 self.old.counts.now }
+        ensures same_parts { SameParts self.old self.new }
         ensures same_lists { SameLists events.old events.new }
         ensures world_after { world_in self.new events.new ≡ noted (world_in self.old events.old) code x }
     {
@@ -27,7 +28,8 @@ impl State {
         script: &Script,
         events: &mut Events,
     ) -> Doing
-        requires { Within 4096 self.old.counts }
+        requires { Within 4096 self.old.counts.now }
+        ensures same_parts { SameParts self.old self.new }
         ensures same_lists { SameLists events.old events.new }
         ensures turn { turn_of (world_in self.new events.new) result ≡ called script.now.table.kind.now (world_in self.old events.old) next }
     {
@@ -49,7 +51,8 @@ impl State {
 
     // Phases 3 and 6: operation o returns, with x beside its event; the thread's next operation comes from the plan.
     pub(crate) fn give_back(&mut self, o: u8, x: i32, script: &Script, events: &mut Events) -> Doing
-        requires { Within 4096 self.old.counts }
+        requires { Within 4096 self.old.counts.now }
+        ensures same_parts { SameParts self.old self.new }
         ensures same_lists { SameLists events.old events.new }
         ensures turn { turn_of (world_in self.new events.new) result ≡ given script.now.next (world_in self.old events.old) o x }
     {

@@ -53,6 +53,33 @@ pub struct State {
     pub puts: [u8; 64],
 }
 
+// The part of a state that each step takes by value and gives back: all but the finds, which no step reads.
+#[derive(Clone, Copy)]
+struct Moving {
+    threads: [Doing; 16],
+    counts: Counts,
+    marks: [u8; 64],
+    owners: [u8; 64],
+}
+
+// The other part: the takes that found a sample, beside the puts that they found. It is lent to each step.
+#[derive(Clone, Copy)]
+struct Finds {
+    takes: [u8; 64],
+    puts: [u8; 64],
+}
+
+// A state taken apart, each part lent by itself: so a step writes the parts that it changes and copies no others.
+#[derive(Drop)]
+struct Parts<'a> {
+    threads: &'a mut [Doing; 16],
+    counts: &'a mut Counts,
+    marks: &'a mut [u8; 64],
+    owners: &'a mut [u8; 64],
+    takes: &'a mut [u8; 64],
+    puts: &'a mut [u8; 64],
+}
+
 // The lists lent for events: their codes, and the sample beside each.
 #[derive(Drop)]
 struct Events<'a> {
@@ -86,6 +113,15 @@ pub fn play(
         table: input.table,
         next,
     };
-    let state = State::new(first).run_all(input.schedule, &script, &mut Events { codes, values });
-    Ok(state)
+    let mut finds = Finds {
+        takes: [0; 64],
+        puts: [0; 64],
+    };
+    let moving = Moving::new(first).run_all(
+        input.schedule,
+        &script,
+        &mut finds,
+        &mut Events { codes, values },
+    );
+    Ok(moving.join(finds))
 }

@@ -1,9 +1,9 @@
 // What is made before the first step: the plan of the operations, so that no step searches the table, and the bench on which nothing moved.
 ghost use Rattle.std.specs.Prelude.{◌≡◌, ℕ, ◌≤◌, ◌<◌, length, get_or};
 ghost use Rattle.stepping.specs.PlanTwin.{plan_one, plan_from};
-ghost use Rattle.stepping.specs.Twins.{start_state};
+ghost use Rattle.stepping.specs.Twins.{state_with, no_finds, start_state};
 
-use crate::{Counts, Doing, State};
+use crate::{Counts, Doing, Finds, Moving, State};
 use limits::Table;
 
 // What stays as it is during a run: the table, and after each operation the next one of its thread, if any is left.
@@ -46,12 +46,12 @@ impl Plan {
     }
 }
 
-impl State {
+impl Moving {
     // A bench on which nothing moved; each thread calls its first operation next.
-    pub(crate) fn new(first: [Option<u8>; 16]) -> State
-        ensures { result ≡ start_state first }
+    pub(crate) fn new(first: [Option<u8>; 16]) -> Moving
+        ensures { state_with result no_finds ≡ start_state first }
     {
-        State {
+        Moving {
             threads: first.map(Doing::Rest),
             counts: Counts {
                 back: 0,
@@ -64,8 +64,27 @@ impl State {
             },
             marks: [0; 64],
             owners: [0; 64],
-            takes: [0; 64],
-            puts: [0; 64],
+        }
+    }
+
+    // The whole state, with its finds.
+    pub(crate) fn join(self, finds: Finds) -> State
+        ensures { result ≡ state_with self finds }
+    {
+        let Moving {
+            threads,
+            counts,
+            marks,
+            owners,
+        } = self;
+        let Finds { takes, puts } = finds;
+        State {
+            threads,
+            counts,
+            marks,
+            owners,
+            takes,
+            puts,
         }
     }
 }

@@ -3,7 +3,7 @@ use Rattle.std.proofs.Common.{◌≡◌, rules, sym, ap, ◌∙◌}
 use Rattle.std.specs.Prelude.{Ok, Err}
 use Rattle.limits.specs.Refusals.{input_refusal}
 use Rattle.limits.specs.Inputs.{input_in}
-use Rattle.stepping.specs.Twins.{World, world_in, play_run, play_fit, play_twin}
+use Rattle.stepping.specs.Twins.{World, world_with, state_with, no_finds, play_run, play_fit, play_twin}
 use Rattle.stepping.proofs.TwinLaws.{playable, start_within}
 use Rattle.stepping.proofs.play.Goals as goal
 
@@ -25,11 +25,11 @@ returns-then-not-has_room c =
 pub new-requires : goal.new-requires
 new-requires c = let p = playable (input_in c.args.input.now) (sym c.in_ok-check.ensures) in (p.few, p.owned)
 
-pub run_all-state-requires-clause-within : goal.run_all-state-requires-clause-within
-run_all-state-requires-clause-within c = start_within c.new-2.result c.new.result.first c.new-2.ensures
+pub run_all-moving-requires-clause-within : goal.run_all-moving-requires-clause-within
+run_all-moving-requires-clause-within c = start_within (state_with c.new-2.result no_finds) c.new.result.first c.new-2.ensures
 
-pub run_all-state-requires-clause-schedule_small : goal.run_all-state-requires-clause-schedule_small
-run_all-state-requires-clause-schedule_small c = let p = playable (input_in c.args.input.now) (sym c.in_ok-check.ensures) in (p.short, p.named)
+pub run_all-moving-requires-clause-schedule_small : goal.run_all-moving-requires-clause-schedule_small
+run_all-moving-requires-clause-schedule_small c = let p = playable (input_in c.args.input.now) (sym c.in_ok-check.ensures) in (p.short, p.named)
 
 pub returns : goal.returns
 unfolding play_twin play_fit play_run
@@ -38,9 +38,9 @@ returns c =
     let table = a.input.now.table in
     let e : input_refusal (input_in a.input.now) ≡ Ok tt = sym c.in_ok-check.ensures in
     let w = play_run (input_in a.input.now) a.codes.now a.values.now in
-    let ran : world_in c.run_all-state.result c.run_all-state.new.events ≡ w =
-    rw (c.run_all-state.ensures.world_after, c.new-2.ensures, c.new.ensures) in
-    let state : c.run_all-state.result ≡ w.state = ap (λ (v : World). v.state) ran in
-    let codes : c.run_all-state.new.events.codes.now ≡ w.codes = ap (λ (v : World). v.codes) ran in
-    let values : c.run_all-state.new.events.values.now ≡ w.values = ap (λ (v : World). v.values) ran in
+    let ran : world_with c.run_all-moving.result c.run_all-moving.new.finds c.run_all-moving.new.events ≡ w =
+    rw (c.run_all-moving.ensures.world_after, c.new-2.ensures, c.new.ensures) in
+    let state : state_with c.run_all-moving.result c.run_all-moving.new.finds ≡ w.state = ap (λ (v : World). v.state) ran in
+    let codes : c.run_all-moving.new.events.codes.now ≡ w.codes = ap (λ (v : World). v.codes) ran in
+    let values : c.run_all-moving.new.events.values.now ≡ w.values = ap (λ (v : World). v.values) ran in
     rw (e, sym c.has_room.ensures ∙ c.if-not-has_room.false) (search rules)

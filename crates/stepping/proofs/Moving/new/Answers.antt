@@ -5,7 +5,7 @@ use Rattle.std.proofs.lemmas.List.{ext_get_or}
 use lib.ListN.{length-map, get_or-map}
 use Rattle.stepping.specs.declared.Doing.TheVariants.{Rest}
 use Rattle.stepping.specs.Twins.{start_state, resting}
-use Rattle.stepping.proofs.State.new.Goals as goal
+use Rattle.stepping.proofs.Moving.new.Goals as goal
 
 pub returns : goal.returns
 unfolding start_state
