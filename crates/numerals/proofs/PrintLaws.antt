@@ -1,15 +1,16 @@
 -- Laws of printing: the digits of a number, and texts put one after another. Assumes nothing.
 use mathlib.Core.Path.{◌≡◌, refl, sym, ◌∙◌, ap, subst}
 use mathlib.Core.Bool.{Bool, true, false}
-use mathlib.Core.List.{List, [], ◌∷◌, ◌++◌, append_assoc}
-use Prim.Native.Nat.{ℕ, zero, suc, ◌+◌, ◌*◌, ◌/◌, ◌%◌, ◌≤◌, ◌<◌}
+use mathlib.Core.List.{List, [], ◌∷◌, ◌++◌, append_assoc, append-nil}
+use Prim.Native.Nat.{ℕ, zero, suc, ◌+◌, ◌-◌, ◌*◌, ◌/◌, ◌%◌, ◌≤◌, ◌<◌}
 use native.Mathlib.Omega.{arith}
 use native.Mathlib.Nat.{add-zero, add-suc, suc-add}
 use borrow.Rule.Slice.PartMut.{put_mid}
 use lib.ListN.{length, set, take, drop, length-append}
+use Rattle.std.proofs.lemmas.List.{drop_all, take_all, length-drop}
 use Rattle.std.proofs.lemmas.List.Edits.{sets-eq, paste_all}
 use Rattle.std.proofs.lemmas.Slice.{put_mid-paste}
-use lib.Seq.{sets, set_out, length-sets}
+use lib.Seq.{sets, set_comm, set_out, length-sets}
 use lib.Dec.{ltb, leb}
 use borrow.Author.Tests.{lt-ltb, le-ltb, ltb-true, ltb-false, leb-true, leb-false}
 use Rattle.numerals.specs.Decimal.{dec, decimal}
@@ -45,6 +46,41 @@ long_decimal n = go (ltb n 10) refl
     go true q = omega (arith, length_one n (ltb-true n 10 q))
     go false q = omega (arith, length_more n (ltb-false n 10 q))
 
+-- the k lowest digits of n
+abbrev pub lows : ℕ → ℕ → List ℕ
+lows zero n = []
+lows (suc k) n = lows k (n / 10) ++ ((48 + n % 10) ∷ [])
+
+-- a number's digits are its lowest digits, as many as it has
+pub decimal_lows : (k n : ℕ) → length (decimal n) ≡ k → decimal n ≡ lows k n
+decimal_lows zero n e = absurd (omega (arith, long_decimal n))
+decimal_lows (suc k) n e = go (ltb n 10) refl k e (decimal_lows k (n / 10))
+  where
+    go : (b : Bool) → ltb n 10 ≡ b → (k : ℕ) → length (decimal n) ≡ suc k → (length (decimal (n / 10)) ≡ k → decimal (n / 10) ≡ lows k (n / 10)) → decimal n ≡ lows (suc k) n
+    go true q zero e ih = decimal_one n (ltb-true n 10 q) ∙ ap (λ (d : ℕ). (48 + d) ∷ []) (omega (arith, ltb-true n 10 q))
+    go true q (suc k) e ih = absurd (omega (arith, length_one n (ltb-true n 10 q)))
+    go false q k e ih = decimal_more n (ltb-false n 10 q) ∙ ap (λ (s : List ℕ). s ++ ((48 + n % 10) ∷ [])) (ih (omega (arith, length_more n (ltb-false n 10 q))))
+
+-- a store before a text that was put is a store under it
+pub set_sets : {A : Type 0} (l : List A) (i j : ℕ) (v : A) (vs : List A) → i < j → set (sets l j vs) i v ≡ sets (set l i v) j vs
+set_sets l i j v [] h = refl
+set_sets {A = A} l i j v (w ∷ vs) h = set_sets (set l j w) i (suc j) v vs (omega arith) ∙ ap (λ (x : List A). sets x (suc j) vs) (set_comm l j i w v (λ e. omega arith))
+
+-- one digit more, before those that stand already
+pub digit_next :
+    (l : List ℕ) (i n rest : ℕ) (out s : List ℕ)
+    → 0 < i
+    → decimal n ≡ lows i rest ++ s
+    → out ≡ sets l i s
+    → (decimal n ≡ lows (i - 1) (rest / 10) ++ ((48 + rest % 10) ∷ s)) × (set out (i - 1) (48 + rest % 10) ≡ sets l (i - 1) ((48 + rest % 10) ∷ s))
+digit_next l zero n rest out s h d e = absurd (omega arith)
+digit_next l (suc k) n rest out s h d e =
+    let v = 48 + rest % 10 in
+    let q : k ≡ suc k - 1 = omega arith in (
+      d ∙ append_assoc (lows k (rest / 10)) (v ∷ []) s ∙ ap (λ (j : ℕ). lows j (rest / 10) ++ (v ∷ s)) q,
+      subst (λ (j : ℕ). set out j v ≡ sets l j (v ∷ s)) q (ap (λ (x : List ℕ). set x k v) e ∙ set_sets l k (suc k) v s (omega arith)),
+    )
+
 -- one entry more, at the place after those that are stored
 pub sets_snoc : {A : Type 0} (l : List A) (i : ℕ) (vs : List A) (v : A) → set (sets l i vs) (i + length vs) v ≡ sets l i (vs ++ (v ∷ []))
 sets_snoc l i [] v = rw (add-zero i)
@@ -67,6 +103,23 @@ sets_over l w at k part fits e same =
     ∙ paste_all l at w (length w) refl
     ∙ sym (append_assoc (take at l) w (drop (at + length w) l))
     ∙ sym (sets-eq w l at fits)
+
+-- what is stored in the rest of a list
+pub sets_cons : {A : Type 0} (x : A) (l : List A) (i : ℕ) (vs : List A) → sets (x ∷ l) (suc i) vs ≡ x ∷ sets l i vs
+sets_cons x l i [] = refl
+sets_cons x l i (v ∷ vs) = sets_cons x (set l i v) (suc i) vs
+
+pub sets_drop : {A : Type 0} (l : List A) (at : ℕ) (vs : List A) → at ≤ length l → take at l ++ sets (drop at l) 0 vs ≡ sets l at vs
+sets_drop l zero vs h = refl
+sets_drop [] (suc at) vs h = absurd (omega arith)
+sets_drop {A = A} (x ∷ l) (suc at) vs h = ap (λ (y : List A). x ∷ y) (sets_drop l at vs (omega arith)) ∙ sym (sets_cons x l at vs)
+
+pub sets_rest : {A : Type 0} (l w : List A) (at : ℕ) (part : List A) → at ≤ length l → part ≡ sets (take (length l - at) (drop at l)) 0 w → put_mid at (length l - at) l part ≡ sets l at w
+sets_rest {A = A} l w at part h e =
+    let all : length (drop at l) ≤ length l - at = omega (arith, length-drop at l) in
+    ap (λ (x : List A). take at l ++ (part ++ x)) (drop_all (length l - at) (drop at l) all)
+    ∙ ap (λ (x : List A). take at l ++ x) (append-nil part ∙ e ∙ ap (λ (x : List A). sets x 0 w) (take_all (length l - at) (drop at l) all))
+    ∙ sets_drop l at w h
 
 -- a place that stands for a sum that no list reaches
 pub sets_after : {A : Type 0} (l : List A) (at n : ℕ) (vs : List A) → length l ≤ 18446744073709551615 → sets l (after at n) vs ≡ sets l (at + n) vs

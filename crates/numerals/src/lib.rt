@@ -2,6 +2,7 @@
 #![tactic(auto)]
 
 ghost use Rattle.std.specs.Prelude.{◌≡◌, ℕ, IfSome, ◌+◌, ◌-◌, ◌≤◌, ◌<◌, ℤ, pos, neg_ℤ, [], ◌∷◌, length};
+ghost use Rattle.std.proofs.lemmas.List.Edits.{sets};
 ghost use Rattle.numerals.specs.Decimal.{decimal};
 ghost use Rattle.numerals.specs.Samples.{sample_text};
 ghost use Rattle.numerals.specs.Reading.{digits_of, number_of, sample_of};
@@ -71,6 +72,33 @@ pub fn read_sample(s: &[u8]) -> Option<i32>
     Some(plus(value))
 }
 
+// How many digits n has.
+fn number_length(n: usize) -> usize
+    ensures { result ≡ length (decimal n) }
+{
+    let mut rest = n;
+    let mut count: usize = 1;
+    while 10 <= rest {
+        rest /= 10;
+        count += 1;
+    }
+    count
+}
+
+// Stores the digits of n from the start of text on, as far as it reaches: the last one first.
+fn store_digits(text: &mut [u8], count: usize, n: usize)
+    requires { count ≡ length (decimal n) }
+    ensures { text.new ≡ sets text.old 0 (decimal n) }
+{
+    let mut rest = n;
+    for i in (0..count).rev() {
+        if i < text.len() {
+            text[i] = b'0' + (rest % 10) as u8;
+        }
+        rest /= 10;
+    }
+}
+
 // A lent text, and the place where its next byte goes. A byte past the end of the text is stored nowhere, and counted all the same.
 #[derive(Drop)]
 pub struct Page<'a> {
@@ -109,12 +137,14 @@ impl<'a> Page<'a> {
         self.at = self.at.saturating_add(1);
     }
 
-    // Puts the bytes of w: at once where they all fit, one by one where they do not.
+    // Puts the bytes of w: at once where none of them fits or all do, one by one where some do.
     pub fn put_bytes(&mut self, w: &[u8])
         ensures { Wrote self.old w.now self.new }
     {
-        let end = self.at.saturating_add(w.len());
-        if end <= self.text.len() {
+        if self.text.len() <= self.at {
+            self.at = self.at.saturating_add(w.len());
+        } else if w.len() <= self.text.len() - self.at {
+            let end = self.at + w.len();
             self.text[self.at..end].copy_from_slice(w);
             self.at = end;
         } else {
@@ -124,17 +154,31 @@ impl<'a> Page<'a> {
         }
     }
 
-    // Puts the digits of n: those of its tenth, and the last one. The tenth of a number of two digits is put without a call: that, and one put less in
-    // the line of a slot, took the largest table with no step from 2.04 to 1.97 times the instructions of the plain program (`tests/benchmark/run`).
+    // Puts the digits of n, however many, each straight to its place.
+    fn put_long(&mut self, n: usize)
+        ensures { Wrote self.old (decimal n) self.new }
+    {
+        let count = number_length(n);
+        let end = self.at.saturating_add(count);
+        if self.at < self.text.len() {
+            store_digits(&mut self.text[self.at..], count, n);
+        }
+        self.at = end;
+    }
+
+    // Puts the digits of n. One or two digits, as most numbers of a text have, are put without a loop: that takes the largest table with no step from
+    // 1.93 to 1.85 times the instructions of the plain program (`tests/benchmark/run`).
     pub fn put_number(&mut self, n: usize)
         ensures { Wrote self.old (decimal n) self.new }
     {
-        if 100 <= n {
-            self.put_number(n / 10);
-        } else if 10 <= n {
+        if n < 10 {
+            self.put_byte(b'0' + n as u8);
+        } else if n < 100 {
             self.put_byte(b'0' + (n / 10) as u8);
+            self.put_byte(b'0' + (n % 10) as u8);
+        } else {
+            self.put_long(n);
         }
-        self.put_byte(b'0' + (n % 10) as u8);
     }
 
     // Puts the text of a sample.

@@ -1,23 +1,23 @@
 // The writer of run files: from a run's input to the text.
 #![tactic(auto)]
 
-ghost use Rattle.std.specs.Prelude.{◌≡◌, [], length};
+ghost use Rattle.std.specs.Prelude.{◌≡◌, [], ◌∷◌, ◌++◌, length};
 ghost use Rattle.limits.specs.Inputs.{input_in};
 ghost use Rattle.limits.specs.Parts.{IsEven};
+ghost use Rattle.numerals.specs.Decimal.{decimal};
 ghost use Rattle.numerals.specs.Places.{Wrote};
 ghost use Rattle.runfile.specs.RunText.{Fitting};
-ghost use Rattle.runfile.specs.Spelling.{pair_line, put_line, ended, op_line, ops_text, steps_text, spelled};
+ghost use Rattle.runfile.specs.Spelling.{put_line, ended, op_line, ops_text, steps_text, spelled};
 ghost use Rattle.runfile.specs.Answers.{WriteSays};
 
 use limits::{Input, Kind, Refusal, Table};
 use numerals::Page;
 
-// Puts the line of the word w and the number n.
+// Puts the line of the words w and the number n.
 fn write_pair(page: &mut Page, w: &[u8], n: usize)
-    ensures { Wrote page.old (ended (pair_line w.now n) []) page.new }
+    ensures { Wrote page.old (w.now ++ (decimal n ++ (10 ∷ []))) page.new }
 {
     page.put_bytes(w);
-    page.put_byte(b'\t');
     page.put_number(n);
     page.put_byte(b'\n');
 }
@@ -39,7 +39,7 @@ fn write_op(page: &mut Page, t: u8, k: u8, x: i32)
 {
     match Kind::of(k) {
         Kind::Put => write_put(page, t as usize, x),
-        Kind::Take => write_pair(page, b"take", t as usize),
+        Kind::Take => write_pair(page, b"take\t", t as usize),
     }
 }
 
@@ -59,7 +59,7 @@ fn write_steps(page: &mut Page, schedule: &[u8])
     ensures { Wrote page.old (steps_text schedule.now) page.new }
 {
     for thread in schedule {
-        write_pair(page, b"step", *thread as usize);
+        write_pair(page, b"step\t", *thread as usize);
     }
 }
 
@@ -69,8 +69,8 @@ fn write_text(page: &mut Page, input: &Input)
     ensures put { Wrote page.old (spelled input.now.threads input.now.slots input.now.table.thread.now input.now.table.kind.now input.now.table.sample.now input.now.schedule.now) page.new }
     ensures fitting { Fitting input.now.table.sample.now }
 {
-    write_pair(page, b"threads", input.threads);
-    write_pair(page, b"slots", input.slots);
+    write_pair(page, b"threads\t", input.threads);
+    write_pair(page, b"slots\t", input.slots);
     write_ops(page, &input.table);
     write_steps(page, input.schedule);
 }
