@@ -120,7 +120,16 @@ impl<'a> Page<'a> {
         Page { text, at: 0 }
     }
 
-    // How many bytes were put.
+    // The page of a text, at a place of it, or past its end.
+    pub fn starting_at(text: &'a mut [u8], place: usize) -> Page<'a>
+        ensures same { result.text.ghost_name ≡ text.entry.ghost_name }
+        ensures text { result.text.now ≡ text.old }
+        ensures start { result.at ≡ place }
+    {
+        Page { text, at: place }
+    }
+
+    // The place where the next byte goes: on a page that began at its start, how many bytes were put.
     pub fn count(&self) -> usize
         ensures { result ≡ self.now.at }
     {
