@@ -69,7 +69,7 @@ struct Finds {
     puts: [u8; 64],
 }
 
-// A state taken apart, each part lent by itself: so a step writes the parts that it changes and copies no others.
+// A state taken apart, each part lent by itself: a phase writes the parts that it changes, where they lie.
 #[derive(Drop)]
 struct Parts<'a> {
     threads: &'a mut [Doing; 16],

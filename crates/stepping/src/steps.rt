@@ -1,4 +1,4 @@
-// The schedule, step by step: the bench's state goes in by value and comes back stepped, once for each schedule entry.
+// The schedule, step by step: the bench's state goes in by value and comes back stepped, once for each schedule entry; its finds are lent beside it.
 ghost use Rattle.std.specs.Prelude.{◌≡◌, ℕ, ◌≤◌, ◌<◌, length, get_or};
 ghost use Rattle.stepping.specs.Twins.{Within, SameParts, SameLists, turn_of, acted, world_in, world_with, step_world, run_world};
 
@@ -42,7 +42,8 @@ impl Parts<'_> {
 }
 
 impl Moving {
-    // One step of thread t: the state goes in by value and comes back stepped, its finds beside it.
+    // One step of thread t: the state goes in by value and comes back stepped. It is taken apart into variables, since a struct that holds arrays would
+    // be copied whole, twice, where it is changed in place.
     fn step(self, t: usize, script: &Script, finds: &mut Finds, events: &mut Events) -> Moving
         requires { (t < 16) × Within 4096 self.counts }
         ensures same_lists { SameLists events.old events.new }
