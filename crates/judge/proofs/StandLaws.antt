@@ -48,8 +48,8 @@ fresh t m (Call o) x s = s.1.fresh
 fresh t m (Return o) x s = s.1.fresh
 
 -- each code is that of an event
-coded : (c : ℕ) → (e : Event) × (event_code e ≡ c)
-coded c = go (ℕ_discrete (c % 2) 0)
+code_event : (c : ℕ) → (e : Event) × (event_code e ≡ c)
+code_event c = go (ℕ_discrete (c % 2) 0)
   where
     go : Dec (c % 2 ≡ 0) → (e : Event) × (event_code e ≡ c)
     go (yes e) = (Call (c / 2), omega arith)
@@ -88,7 +88,7 @@ module _ (t : Operations) (h : History) (i : ℕ) (m : Marks) (r : ReadTo t h i 
       go : Dec (j ≡ i) → ⊥
       go (yes q) = none-some k (sym none ∙ r.to e k (omega arith) (same ∙ rw q (sym code)))
       go (no ne) =
-          let f = coded (get_or h.codes.now j 0) in
+          let f = code_event (get_or h.codes.now j 0) in
           let a = r.to f.0 k (omega arith) (same ∙ sym f.1) in
           let b = r.to f.0 j (omega arith) (sym f.1) in
           let q : k ≡ j = cc in

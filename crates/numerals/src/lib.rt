@@ -176,7 +176,7 @@ impl<'a> Page<'a> {
     }
 
     // Puts the digits of n. One or two digits, as most numbers of a text have, are put without a loop: that takes the largest table with no step from
-    // 1.58 to 1.50 times the instructions of the plain program (`tests/benchmark/run`).
+    // 1.6 to 1.5 times the instructions of the plain program (`tests/benchmark/run`).
     pub fn put_number(&mut self, n: usize)
         ensures { Wrote self.old (decimal n) self.new }
     {
